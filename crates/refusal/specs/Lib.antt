@@ -1,0 +1,4 @@
+pub mod Limits
+pub mod Counting
+pub mod Tables
+pub mod Refusals
