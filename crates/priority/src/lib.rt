@@ -2,6 +2,11 @@
 ghost use mathlib.Core.Path.{_≡_};
 ghost use mathlib.Core.Bool.{Bool, true, _||_};
 
+pub mod house;
+pub mod number;
+pub mod places;
+pub mod ranking;
+
 /// A kind of priority: a sort of value with one question, which keeps two laws.
 pub trait Priority: Sized {
     /// The first is at least as high as the second.
