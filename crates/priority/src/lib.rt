@@ -6,6 +6,8 @@ pub mod house;
 pub mod number;
 pub mod places;
 pub mod ranking;
+#[cfg(test)]
+mod tests;
 
 /// A kind of priority: a sort of value with one question, which keeps two laws.
 pub trait Priority: Sized {

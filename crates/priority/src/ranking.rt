@@ -38,14 +38,14 @@ impl<'a, P: Priority + Copy> Ranking<'a, P> {
     pub fn as_slice(&self) -> &[P]
         ensures { λ r. ⌜ now r ≡ now (now (self .entry) .table) ⌝ }
     {
-        self.table
+        &*self.table
     }
 
     /// The priority at the number, or none under 0 and beyond the length.
     pub fn get(&self, number: usize) -> Option<P>
         ensures { λ r. ⌜ r ≡ item (now (now (self .entry) .table)) number ⌝ }
     {
-        priority_at(self.table, number)
+        priority_at(self.table, number).copied()
     }
 
     /// Sets the priority at the number; refusal 10 under 0 and beyond the length.

@@ -9,7 +9,7 @@ use lib.ListN.{length, getD, set, length-set}
 use lib.Seq.{getD-set-same, getD-set-other}
 use borrow.Author.Needs.{getD-read}
 use Rattle.std.specs.shelf.Maps.{nth}
-use Rattle.std.proofs.shelf.Lists.{getD-past}
+use Rattle.std.proofs.shelf.Lists.{getD-past, set-past}
 use Rattle.std.proofs.shelf.Maps.{nth-read, nth-past}
 use Rattle.std.proofs.shelf.Tests.{cases-lt, both-ways, false≢true}
 use Rattle.std.specs.declared.option.Option.{Option}
@@ -52,6 +52,10 @@ at-put-other d xs zero x zero n = refl
 at-put-other d xs zero x (suc j) n = refl
 at-put-other d xs (suc k) x zero n = refl
 at-put-other d xs (suc k) x (suc j) n = getD-set-other xs k j x d (λ e. n (ap suc e))
+
+pub put-past : {X : Type 0} (xs : List X) (k : ℕ) (x : X) → (1 ≤ k → length xs < k) → put xs k x ≡ xs
+put-past xs zero x h = refl
+put-past xs (suc k) x h = set-past xs k x (omega (arith, h (omega arith)))
 
 -- ---- item
 pub item-read : {X : Type 0} (xs : List X) (k : ℕ) (x : X) → 1 ≤ k → k ≤ length xs → x ≡ getD xs (k - 1) x → item xs k ≡ Some x
