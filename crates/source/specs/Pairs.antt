@@ -1,9 +1,10 @@
 -- Who may run where: counts, allowed pairs, and the questions about them. Numbers start at 1.
 use mathlib.Core.Path.{_≡_}
-use mathlib.Core.Bool.{Bool, cond, _&&_}
-use Prim.Native.Nat.{ℕ}
+use mathlib.Core.Bool.{Bool, false, cond, not, _&&_}
+use Prim.Native.Nat.{ℕ, min}
 use lib.Dec.{eqb}
 use Rattle.std.specs.declared.option.Option.{Option}
+use Rattle.refusal.specs.Limits.{side}
 use Rattle.refusal.specs.Counting.{within, first-from}
 
 -- Two counts, and a set of pairs: `allowed i s` says that programme i may run in slot s. Only pairs
@@ -44,3 +45,15 @@ changed p i s b = record { programmes = p .programmes; slots = p .slots; allowed
 -- The two sides exchanged.
 abbrev pub turned : Pairs → Pairs
 turned p = record { programmes = p .slots; slots = p .programmes; allowed = λ s i. p .allowed i s }
+
+-- These counts, and no pair allowed.
+abbrev pub empty-pairs : ℕ → ℕ → Pairs
+empty-pairs programmes slots = record { programmes = programmes; slots = slots; allowed = λ i s. false }
+
+-- The counts cut to the most that a side may have.
+abbrev pub cut : Pairs → Pairs
+cut p = record { programmes = min (p .programmes) side; slots = min (p .slots) side; allowed = p .allowed }
+
+-- A layer over p: the counts cut, and the pairs that `out` names taken out.
+abbrev pub layered : Pairs → (ℕ → ℕ → Bool) → Pairs
+layered p out = record { programmes = cut p .programmes; slots = cut p .slots; allowed = λ i s. p .allowed i s && not (out i s) }

@@ -3,9 +3,15 @@ ghost use mathlib.Core.Path.{_≡_};
 ghost use mathlib.Core.Bool.{Bool, true, false};
 ghost use Prim.Native.Nat.{ℕ};
 ghost use Rattle.std.specs.Vec.{made, refused};
+ghost use Rattle.refusal.specs.Counting.{count};
 ghost use Rattle.refusal.specs.Refusals.{refusal-of, first-refusal};
-ghost use Rattle.source.specs.Pairs.{Pairs, same-counts, first-slot, first-programme, changed};
+ghost use Rattle.source.specs.Pairs.{Pairs, inside, holds, same-counts, first-slot, first-programme, changed};
 ghost use Rattle.source.specs.Edits.{bar-refusals, lift-refusals};
+
+pub mod layer;
+pub mod mirror;
+pub mod turned;
+
 use refusal::Refusal;
 use refusal::limits::Num;
 
@@ -52,4 +58,37 @@ pub trait OpenSource: PairSource {
         ensures counts { λ r. ⌜ same-counts (Self·PairSource .pairs (now (self .exit))) (Self·PairSource .pairs (now (self .entry))) ⌝ }
         ensures pairs { λ r. ⌜ made r (λ _. Self·PairSource .pairs (now (self .exit)) ≡ changed (Self·PairSource .pairs (now (self .entry))) programme slot true) ⌝ }
         ensures possible { λ r. ⌜ possible (now (self .exit)) ≡ possible (now (self .entry)) ⌝ };
+}
+
+/// Whether both numbers are within the source's counts.
+pub fn is_inside<S: PairSource>(source: &S, programme: Num, slot: Num) -> bool
+    ensures { λ r. ⌜ r ≡ inside (pairs (now (source .entry))) programme slot ⌝ }
+{
+    1 <= programme && programme <= source.programmes() && 1 <= slot && slot <= source.slots()
+}
+
+/// Whether the programme may run in the slot.
+pub fn allows<S: PairSource>(source: &S, programme: Num, slot: Num) -> bool
+    ensures { λ r. ⌜ r ≡ holds (pairs (now (source .entry))) programme slot ⌝ }
+{
+    if !is_inside(source, programme, slot) {
+        return false;
+    }
+    match source.first_slot(programme, slot as usize) {
+        Some(first) => first == slot,
+        None => false,
+    }
+}
+
+/// In how many slots the programme may run.
+pub fn count_slots<S: PairSource>(source: &S, programme: Num) -> usize
+    ensures { λ r. ⌜ r ≡ count (λ slot. holds (pairs (now (source .entry))) programme slot) (pairs (now (source .entry)) .slots) ⌝ }
+{
+    let mut slots = 0;
+    let mut from = 1;
+    while let Some(slot) = source.first_slot(programme, from) {
+        slots += 1;
+        from = slot as usize + 1;
+    }
+    slots
 }

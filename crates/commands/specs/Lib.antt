@@ -1,0 +1,3 @@
+pub mod Pages
+pub mod Judging
+pub mod Answers

@@ -1,0 +1,4 @@
+pub mod Soundness
+pub mod Checks
+pub mod Agreement
+pub mod Lists

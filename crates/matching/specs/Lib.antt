@@ -1,0 +1,4 @@
+pub mod Board
+pub mod Certificate
+pub mod Check
+pub mod Lists

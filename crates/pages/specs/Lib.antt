@@ -1,0 +1,4 @@
+pub mod Stages
+pub mod PairPages
+pub mod TablePages
+pub mod PageLaws

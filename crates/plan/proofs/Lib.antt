@@ -1,0 +1,4 @@
+pub mod Writing
+pub mod Pairing
+pub mod Asked
+pub mod Fills

@@ -1,0 +1,12 @@
+use Prim.Native.Nat.{_+_, _*_, _≤_}
+use mathlib.Core.Path.{_≡_}
+use Rattle.std.specs.Of.Vec.{vec-items, vec-len, vec-cap}
+use Rattle.refusal.specs.Limits.{side}
+use Rattle.refusal.specs.Tables.{at}
+use Rattle.priority_pages.specs.PriorityPages.{house-of, is-house}
+use Rattle.priority_pages.proofs.Rows.{Made}
+use Rattle.priority_pages.proofs.houses.make_houses.Given as given
+
+-- The rows up to here are made, and there is room for all.
+abbrev pub Inv-loop-i : given.InvT-loop-i
+Inv-loop-i l = Made house-of is-house (λ i. (at 0 (l .table) i, at 0 (l .table) (l .rows + i))) (l .i) (vec-items (l .priorities)) × (vec-len (l .priorities) ≡ l .i) × (2 * side ≤ vec-cap (l .priorities))
