@@ -1,10 +1,9 @@
 //! Bars: an open layer over any source. What is allowed below can be barred here, and lifted again.
 ghost use mathlib.Core.Path.{_≡_};
 ghost use mathlib.Core.Bool.{true, not};
-ghost use mathlib.Core.List.{[]};
 ghost use Rattle.std.specs.Vec.{made};
+ghost use Rattle.std.specs.declared.option.Option.the-variants.{None};
 ghost use Rattle.refusal.specs.Limits.{side};
-ghost use Rattle.refusal.specs.Refusals.{first-refusal};
 ghost use Rattle.source.specs.Pairs.{holds, changed, cut};
 ghost use Rattle.source.specs.Makes.{make-refusal-of};
 ghost use Rattle.grid.specs.GridPairs.{grid-pairs};
@@ -36,7 +35,7 @@ pub struct Bars<S> {
 impl<S: PairSource + Drop> Bars<S> {
     /// A layer over the source in which nothing is barred yet.
     pub fn new(heap: Global, below: S) -> Result<Bars<S>, MakeError>
-        ensures answer { λ r. ⌜ make-refusal-of r ≡ first-refusal [] ⌝ }
+        ensures answer { λ r. ⌜ make-refusal-of r ≡ None ⌝ }
         ensures below { λ r. ⌜ made r (λ bars. bars .below ≡ below) ⌝ }
         ensures pairs { λ r. ⌜ made r (λ bars. barred-pairs (S·PairSource .pairs below) (bars .barred) ≡ cut (S·PairSource .pairs below)) ⌝ }
     {

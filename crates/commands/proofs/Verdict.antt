@@ -85,10 +85,10 @@ module _ {P : Type 0} (reaches : P → P → Bool) (pairs : Pairs) (xs ys : List
   pub same-verdict : made r (λ b. b ≡ passes (board-of reaches pairs xs ys (h .attendance)) (plan-of (h .slot-of)) (certificate-of (length xs) certificate)) → made r (λ b. b ≡ accepts reaches pairs xs ys q certificate)
   same-verdict m =
       made-weaker r _ _ (λ b e.
-        e
-        ∙ ap (λ (here : Sides Bool). passes (board-of reaches pairs xs ys here) (plan-of (h .slot-of)) (certificate-of (length xs) certificate)) attends
-        ∙ ap (λ (p : Plan). passes (board-of reaches pairs xs ys (everyone (pairs .programmes) (pairs .slots))) p (certificate-of (length xs) certificate)) same-plan
-        ∙ sym (cond-true (is-plan q) _ false is-a-plan))
+      e
+      ∙ ap (λ (here : Sides Bool). passes (board-of reaches pairs xs ys here) (plan-of (h .slot-of)) (certificate-of (length xs) certificate)) attends
+      ∙ ap (λ (p : Plan). passes (board-of reaches pairs xs ys (everyone (pairs .programmes) (pairs .slots))) p (certificate-of (length xs) certificate)) same-plan
+      ∙ sym (cond-true (is-plan q) _ false is-a-plan))
       m
 
 -- the same of equal lists

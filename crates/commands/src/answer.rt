@@ -31,7 +31,12 @@ pub fn refusal_text(heap: Global, declined: Declined) -> Result<String, AllocErr
     ensures { λ r. ⌜ made r (λ text. string-bytes text ≡ refusal-line declined) ⌝ }
 {
     match declined {
-        Declined::Page(fault) => refusal_at(heap, fault.refusal, fault.page.file_name(), fault.line),
+        Declined::Page(fault) => refusal_at(
+            heap,
+            fault.refusal,
+            fault.page.file_name(),
+            fault.line,
+        ),
         Declined::Week(refusal) => refusal_at(heap, refusal, "week", 0),
     }
 }
@@ -40,5 +45,9 @@ pub fn refusal_text(heap: Global, declined: Declined) -> Result<String, AllocErr
 pub fn verdict_text(heap: Global, accepted: bool) -> Result<String, AllocError>
     ensures { λ r. ⌜ made r (λ text. string-bytes text ≡ verdict-line accepted) ⌝ }
 {
-    if accepted { String::from_str(heap, "accepted\n") } else { String::from_str(heap, "rejected\n") }
+    if accepted {
+        String::from_str(heap, "accepted\n")
+    } else {
+        String::from_str(heap, "rejected\n")
+    }
 }

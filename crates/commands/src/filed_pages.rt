@@ -56,7 +56,11 @@ impl FiledRoom {
         let week = WeekRoom::new(heap)?;
         let plan = Grid::new(heap, 0, 0)?;
         match vec![in heap; 0u16; 2 * SIDE] {
-            Ok(entries) => Ok(FiledRoom { week, plan, entries }),
+            Ok(entries) => Ok(FiledRoom {
+                week,
+                plan,
+                entries,
+            }),
             Err(_) => Err(MakeError::NoMemory),
         }
     }
@@ -66,7 +70,11 @@ impl FiledRoom {
 pub fn read_filed(room: FiledRoom, bytes: &FiledBytes) -> Result<FiledRead, Fault>
     ensures { λ r. ⌜ given filed-of r ≡ read-filed (now (now (bytes .entry) .pairs)) (now (now (bytes .entry) .programmes)) (now (now (bytes .entry) .slots)) (now (now (bytes .entry) .plan)) (now (now (bytes .entry) .proof)) ⌝ }
 {
-    let FiledRoom { week, mut plan, mut entries } = room;
+    let FiledRoom {
+        week,
+        mut plan,
+        mut entries,
+    } = room;
     let pages = WeekBytes {
         pairs: bytes.pairs,
         programmes: bytes.programmes,
@@ -76,5 +84,9 @@ pub fn read_filed(room: FiledRoom, bytes: &FiledBytes) -> Result<FiledRead, Faul
     read_pairs(&mut plan, Page::Plan, bytes.plan)?;
     let rows = read_table(&mut entries, Columns::One, Page::Proof, bytes.proof)?;
     entries.truncate(rows);
-    Ok(FiledRead { week, plan, entries })
+    Ok(FiledRead {
+        week,
+        plan,
+        entries,
+    })
 }

@@ -15,17 +15,17 @@ ghost use Rattle.plan.specs.Held.{held};
 ghost use Rattle.plan.specs.Parts.{ranked, board-of};
 ghost use Rattle.judge.specs.Handed.{judge-refusals};
 ghost use Rattle.commands.specs.Judging.{pages-fit, verdict-refusals, accepts, reaches-number, Judged};
-use grid::Grid;
-use grid::GridSource;
-use judge::judge;
-use plan::Plan;
-use plan::questions::parts_fit;
 use crate::answer::Declined;
 use crate::filed_pages::FiledBytes;
 use crate::filed_pages::FiledRead;
 use crate::filed_pages::FiledRoom;
 use crate::filed_pages::read_filed;
 use crate::week_pages::WeekRead;
+use grid::Grid;
+use grid::GridSource;
+use judge::judge;
+use plan::Plan;
+use plan::questions::parts_fit;
 use priority::Priority;
 use priority::number::NumberPriority;
 use priority::ranking::Ranking;
@@ -35,21 +35,39 @@ use source::PairSource;
 use std::alloc::Global;
 
 /// Whether the counts of pairs, rankings, plan page and certificate fit together.
-fn pages_fit<P: Priority + Copy>(source: &Grid, programmes: &Ranking<P>, slots: &Ranking<P>, planned: &Grid, certificate: &[u16]) -> bool
+fn pages_fit<P: Priority + Copy>(
+    source: &Grid,
+    programmes: &Ranking<P>,
+    slots: &Ranking<P>,
+    planned: &Grid,
+    certificate: &[u16],
+) -> bool
     ensures { λ r. ⌜ r ≡ pages-fit (grid-pairs (now (source .entry))) (ranked (now (programmes .entry))) (ranked (now (slots .entry))) (grid-pairs (now (planned .entry))) (now (certificate .entry)) ⌝ }
 {
-    parts_fit(source, programmes, slots) && planned.programmes() == source.programmes() && planned.slots() == source.slots() && certificate.len() == source.programmes() as usize + source.slots() as usize
+    parts_fit(source, programmes, slots)
+        && planned.programmes() == source.programmes()
+        && planned.slots() == source.slots()
+        && certificate.len() == source.programmes() as usize + source.slots() as usize
 }
 
 /// Whether the pairs of the plan page are a plan that passes with the certificate. Refuses 12 where
 /// the counts of pairs, rankings, plan and certificate do not fit together. Pairs that use a
 /// programme or a slot twice are no plan, and do not pass.
-pub fn verdict(plan: Plan, week: WeekRead, planned: &Grid, certificate: &[u16]) -> Result<bool, Refusal>
+pub fn verdict(
+    plan: Plan,
+    week: WeekRead,
+    planned: &Grid,
+    certificate: &[u16],
+) -> Result<bool, Refusal>
     ensures answer { λ r. ⌜ refusal-of r ≡ first-refusal (verdict-refusals (grid-pairs (week .pairs)) (vec-items (week .programmes)) (vec-items (week .slots)) (grid-pairs (now (planned .entry))) (now (certificate .entry))) ⌝ }
     ensures told { λ r. ⌜ made r (λ accepted. accepted ≡ accepts reaches-number (grid-pairs (week .pairs)) (vec-items (week .programmes)) (vec-items (week .slots)) (grid-pairs (now (planned .entry))) (now (certificate .entry))) ⌝ }
 {
     let mut plan = plan;
-    let WeekRead { pairs, mut programmes, mut slots } = week;
+    let WeekRead {
+        pairs,
+        mut programmes,
+        mut slots,
+    } = week;
     let programmes = Ranking::new(&mut programmes);
     let slots = Ranking::new(&mut slots);
     if !pages_fit(&pairs, &programmes, &slots, planned, certificate) {
@@ -86,7 +104,11 @@ pub fn judge_pages(room: JudgeRoom, bytes: &FiledBytes) -> Result<bool, Declined
     ensures { λ r. ⌜ Judged (now (now (bytes .entry) .pairs)) (now (now (bytes .entry) .programmes)) (now (now (bytes .entry) .slots)) (now (now (bytes .entry) .plan)) (now (now (bytes .entry) .proof)) r ⌝ }
 {
     let JudgeRoom { filed, plan } = room;
-    let FiledRead { week, plan: planned, entries } = match read_filed(filed, bytes) {
+    let FiledRead {
+        week,
+        plan: planned,
+        entries,
+    } = match read_filed(filed, bytes) {
         Ok(read) => read,
         Err(fault) => return Err(Declined::Page(fault)),
     };

@@ -53,7 +53,12 @@ impl WeekRoom {
         let programmes = PriorityRoom::new(heap)?;
         let slots = PriorityRoom::new(heap)?;
         match vec![in heap; 0u16; 2 * SIDE] {
-            Ok(values) => Ok(WeekRoom { pairs, programmes, slots, values }),
+            Ok(values) => Ok(WeekRoom {
+                pairs,
+                programmes,
+                slots,
+                values,
+            }),
             Err(_) => Err(MakeError::NoMemory),
         }
     }
@@ -63,9 +68,18 @@ impl WeekRoom {
 pub fn read_week(room: WeekRoom, bytes: &WeekBytes) -> Result<WeekRead, Fault>
     ensures { λ r. ⌜ given week-of r ≡ read-week (now (now (bytes .entry) .pairs)) (now (now (bytes .entry) .programmes)) (now (now (bytes .entry) .slots)) ⌝ }
 {
-    let WeekRoom { mut pairs, programmes, slots, mut values } = room;
+    let WeekRoom {
+        mut pairs,
+        programmes,
+        slots,
+        mut values,
+    } = room;
     read_pairs(&mut pairs, Page::Pairs, bytes.pairs)?;
     let programmes = read_numbers(programmes, &mut values, Page::Programmes, bytes.programmes)?;
     let slots = read_numbers(slots, &mut values, Page::Slots, bytes.slots)?;
-    Ok(WeekRead { pairs, programmes, slots })
+    Ok(WeekRead {
+        pairs,
+        programmes,
+        slots,
+    })
 }

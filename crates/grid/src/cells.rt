@@ -1,9 +1,10 @@
 //! How a grid is made, emptied, read and written.
 ghost use mathlib.Core.Path.{_≡_};
 ghost use mathlib.Core.Bool.{true};
-ghost use Prim.Native.Nat.{_<_};
+ghost use Prim.Native.Nat.{_*_, _<_};
 ghost use Rattle.std.specs.Of.Vec.{vec-len};
 ghost use Rattle.std.specs.Vec.{made, refused};
+ghost use Rattle.refusal.specs.Limits.{side};
 ghost use Rattle.refusal.specs.Refusals.{refusal-of, first-refusal};
 ghost use Rattle.source.specs.Pairs.{inside, holds, changed, empty-pairs};
 ghost use Rattle.source.specs.Makes.{make-refusal-of, count-refusals};
@@ -84,7 +85,7 @@ impl Grid {
 fn place(programme: usize, slot: usize) -> usize
     requires { ⌜ has-cell programme slot ≡ true ⌝ }
     ensures place { λ r. ⌜ r ≡ place-of programme slot ⌝ }
-    ensures bound { λ r. ⌜ r < 40000 ⌝ }
+    ensures bound { λ r. ⌜ r < side * side ⌝ }
 {
     (programme - 1) * SIDE + (slot - 1)
 }

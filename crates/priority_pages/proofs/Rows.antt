@@ -17,7 +17,7 @@ use Rattle.refusal.specs.declared.Refusal.the-variants as no
 use Rattle.refusal.specs.Refusals.{number-of}
 use Rattle.refusal.specs.Counting.{all}
 use Rattle.refusal.proofs.Counts.{all-fails}
-use Rattle.priority_pages.specs.PriorityPages.{rows-of, all-rows}
+use Rattle.priority_pages.specs.PriorityPages.{rows-of, all-rows, accepted}
 
 -- the rows up to i are made, in items
 pub record Made {X Y : Type 0} (value : Y → X) (test : X → Bool) (row : ℕ → X) (i : ℕ) (items : List Y) : Type 0 where
@@ -67,13 +67,13 @@ is-eleven no.AlreadyAllowed h = absurd (omega arith)
 is-eleven no.NotPossible h = absurd (omega arith)
 
 -- one test, and 11 where it fails
-pub refused-by : (b : Bool) (e : Refusal) → Some (number-of e) ≡ cond (not b) (Some 11) None → (b ≡ false) × (e ≡ no.ValueRange)
-refused-by true e h = let z : _≡_ {A = ℕ} 0 1 = cc in absurd (omega arith)
-refused-by false e h = (refl, is-eleven e (let q : number-of e ≡ 11 = cc in q))
+pub refused-by : (b : Bool) (e : Refusal) → Some (number-of e) ≡ cond b (Some 11) None → (accepted (cond b (Some 11) None) ≡ false) × (e ≡ no.ValueRange)
+refused-by false e h = let z : _≡_ {A = ℕ} 0 1 = cc in absurd (omega arith)
+refused-by true e h = (refl, is-eleven e (let q : number-of e ≡ 11 = cc in q))
 
-pub taken-by : (b : Bool) → _≡_ {A = Option ℕ} None (cond (not b) (Some 11) None) → b ≡ true
-taken-by true h = refl
-taken-by false h = let z : _≡_ {A = ℕ} 0 1 = cc in absurd (omega arith)
+pub taken-by : (o : Option ℕ) → _≡_ {A = Option ℕ} None o → accepted o ≡ true
+taken-by None h = refl
+taken-by (Some n) h = let z : _≡_ {A = ℕ} 0 1 = cc in absurd (omega arith)
 
 pub two : {a b c d : ℕ} → a ≡ b → c ≡ d → _≡_ {A = ℕ × ℕ} (a, c) (b, d)
 two e f = cc

@@ -10,9 +10,9 @@ use Rattle.std.specs.declared.option.Option.the-variants.{Some, None}
 use Rattle.refusal.specs.Limits.{side}
 use Rattle.refusal.specs.Counting.{within, first-from}
 use Rattle.refusal.proofs.Counts.{within-bounds, within-from}
-use Rattle.refusal.proofs.First.{first-some, first-none, first-here, first-on, first-jump, first-empty}
+use Rattle.refusal.proofs.First.{first-here, first-on, first-jump, first-empty}
 use Rattle.source.specs.Pairs.{Pairs, inside, holds, first-slot, layered}
-use Rattle.source.proofs.Questions.{inside-programme, inside-slot}
+use Rattle.source.proofs.Questions.{inside-programme, inside-slot, first-slot-found, no-slot-found}
 
 -- Of p less what `out` names: the search for the first slot of i.
 module _ (p : Pairs) (out : ℕ → ℕ → Bool) (i : ℕ) where
@@ -40,29 +40,34 @@ module _ (p : Pairs) (out : ℕ → ℕ → Bool) (i : ℕ) where
       (and-from _ _ allowed (ap not o))
 
   -- ---- the steps of the search, where the source below answers t from k on
-  pub layer-here : (k t : ℕ) → i ≤ side → t ≤ side → first-slot p i k ≡ Some t → out i t ≡ false → first-slot (layered p out) i k ≡ Some t
+  -- up to t the layer has nothing
+  jump : (k t : ℕ) → Some t ≡ first-slot p i k → first-slot (layered p out) i k ≡ first-slot (layered p out) i t
+  jump k t e =
+      let r = first-slot-found p i k t e in
+      first-jump (holds (layered p out) i) (layered p out .slots) k t (r .0) (λ j a b. not-below j (r .3 j a b))
+
+  pub layer-here : (k t : ℕ) → i ≤ side → t ≤ side → Some t ≡ first-slot p i k → false ≡ out i t → Some t ≡ first-slot (layered p out) i k
   layer-here k t u v e o =
-      let r = first-some (holds p i) (p .slots) k t e in
-      first-jump (holds (layered p out) i) (layered p out .slots) k t (r .0) (λ j a b. not-below j (r .3 j a b)) ∙ first-here (holds (layered p out) i) (layered p out .slots) t (omega (arith, r .1)) (left-true t u v (r .2) o)
+      let r = first-slot-found p i k t e in
+      sym (jump k t e ∙ first-here (holds (layered p out) i) (layered p out .slots) t (omega (arith, r .1)) (left-true t u v (r .2) (sym o)))
 
-  pub layer-on : (k t : ℕ) → first-slot p i k ≡ Some t → out i t ≡ true → first-slot (layered p out) i k ≡ first-slot (layered p out) i (t + 1)
+  pub layer-on : (k t : ℕ) → Some t ≡ first-slot p i k → true ≡ out i t → first-slot (layered p out) i (t + 1) ≡ first-slot (layered p out) i k
   layer-on k t e o =
-      let r = first-some (holds p i) (p .slots) k t e in
-      first-jump (holds (layered p out) i) (layered p out .slots) k t (r .0) (λ j a b. not-below j (r .3 j a b)) ∙ first-on (holds (layered p out) i) (layered p out .slots) t (and-right (inside (layered p out) i t) _ (and-right (p .allowed i t) _ (ap not o)))
+      sym (jump k t e ∙ first-on (holds (layered p out) i) (layered p out .slots) t (and-right (inside (layered p out) i t) _ (and-right (p .allowed i t) _ (ap not (sym o)))))
 
-  pub layer-beyond : (k t : ℕ) → side < t → first-slot p i k ≡ Some t → first-slot (layered p out) i k ≡ None
+  pub layer-beyond : (k t : ℕ) → side < t → Some t ≡ first-slot p i k → None ≡ first-slot (layered p out) i k
   layer-beyond k t v e =
-      let r = first-some (holds p i) (p .slots) k t e in
-      first-empty (holds (layered p out) i) (layered p out .slots) k (λ j a b. not-below j (r .3 j a (omega arith)))
+      let r = first-slot-found p i k t e in
+      sym (first-empty (holds (layered p out) i) (layered p out .slots) k (λ j a b. not-below j (r .3 j a (omega arith))))
 
-  pub layer-end : (k : ℕ) → first-slot p i k ≡ None → first-slot (layered p out) i k ≡ None
+  pub layer-end : (k : ℕ) → None ≡ first-slot p i k → None ≡ first-slot (layered p out) i k
   layer-end k e =
-      first-empty (holds (layered p out) i) (layered p out .slots) k (λ j a b. not-below j (first-none (holds p i) (p .slots) k e j a (omega arith)))
+      sym (first-empty (holds (layered p out) i) (layered p out .slots) k (λ j a b. not-below j (no-slot-found p i k e j a (omega arith))))
 
   -- ---- a programme beyond the cut has no slot
-  pub layer-outside : (k : ℕ) → side < i → first-slot (layered p out) i k ≡ None
-  layer-outside k u = first-empty (holds (layered p out) i) (layered p out .slots) k (λ j a b.
+  pub layer-outside : (k : ℕ) → side < i → None ≡ first-slot (layered p out) i k
+  layer-outside k u = sym (first-empty (holds (layered p out) i) (layered p out .slots) k (λ j a b.
       ⊎-elim
       (λ (h : inside (layered p out) i j ≡ true). let (c, d) = inside-programme (layered p out) i j h in absurd (omega arith))
       (λ (h : inside (layered p out) i j ≡ false). and-left _ _ h)
-      (cases-bool (inside (layered p out) i j)))
+      (cases-bool (inside (layered p out) i j))))

@@ -1,0 +1,9 @@
+pub mod Passing
+pub mod Found
+pub mod Running
+pub mod Advancing
+pub mod Choosing
+pub mod Bridge
+pub mod Dropping
+pub mod Plans
+pub mod Both

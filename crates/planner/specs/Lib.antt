@@ -1,0 +1,3 @@
+pub mod Pass
+pub mod Run
+pub mod Settling
