@@ -3,6 +3,8 @@ use mathlib.Core.Bool.{Bool, cond}
 use mathlib.Core.List.{List, [], _∷_, _++_}
 use Prim.Native.Nat.{ℕ}
 use lib.Chars.{codes}
+use Rattle.std.specs.declared.result.Result.{Result}
+use Rattle.std.specs.declared.result.Result.the-variants.{Ok, Err}
 use Rattle.std.specs.Written.{decimal}
 use Rattle.refusal.specs.Refusals.{number-of}
 use Rattle.page_text.specs.Faults.{file-name}
@@ -21,3 +23,8 @@ refusal-line (Week refusal) = line-at (number-of refusal) (codes "week") 0
 -- A verdict.
 abbrev pub verdict-line : Bool → List ℕ
 verdict-line accepted = cond accepted (codes "accepted\n") (codes "rejected\n")
+
+-- What a program was told: a verdict, or why it refuses.
+abbrev pub answer-line : Result Bool Declined → List ℕ
+answer-line (Ok accepted) = verdict-line accepted
+answer-line (Err declined) = refusal-line declined

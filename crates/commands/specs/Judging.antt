@@ -20,6 +20,10 @@ use Rattle.refusal.specs.Refusals.{number-of as number-of-refusal}
 use Rattle.priority_pages.specs.PriorityPages.{number-of}
 use Rattle.commands.specs.declared.answer.Declined.{Declined}
 use Rattle.commands.specs.declared.answer.Declined.the-variants.{Page, Week}
+use Rattle.std.specs.Of.String.{string-bytes}
+use Rattle.std.specs.Results.{isErr}
+use Rattle.commands.specs.declared.answer.Answer.{Answer}
+use Rattle.commands.specs.Answers.{answer-line}
 use Rattle.commands.specs.Pages.{Filed, read-filed}
 
 -- The number kind: the smaller number is higher.
@@ -65,3 +69,10 @@ Judged pairs programmes slots plan proof (Err (Week refusal)) =
 Judged pairs programmes slots plan proof (Ok accepted) =
     (filed : Filed) × (xs : List Number) × (ys : List Number) × Read pairs programmes slots plan proof filed xs ys × Fits filed xs ys true
     × (accepted ≡ accepts reaches-number (filed .week .pairs) xs ys (filed .plan) (filed .entries))
+
+-- What weekjudge writes: the line of the verdict on the five pages, and whether it is a refusal.
+pub record Answered (b1 b2 b3 b4 b5 : List ℕ) (answer : Answer) : Type 0 where
+  pub judged : Result Bool Declined
+  pub verdict : Judged b1 b2 b3 b4 b5 judged
+  pub text : string-bytes (answer .text) ≡ answer-line judged
+  pub refused : answer .refused ≡ isErr judged

@@ -3,7 +3,7 @@ ghost use mathlib.Core.Path.{_≡_};
 ghost use Rattle.std.specs.Vec.{made};
 ghost use Rattle.std.specs.Of.String.{string-bytes};
 ghost use Rattle.refusal.specs.Refusals.{number-of};
-ghost use Rattle.commands.specs.Answers.{line-at, refusal-line, verdict-line};
+ghost use Rattle.commands.specs.Answers.{line-at, refusal-line, verdict-line, answer-line};
 use page_text::fault::Fault;
 use refusal::Refusal;
 use std::alloc::AllocError;
@@ -16,6 +16,13 @@ pub enum Declined {
     Page(Fault),
     /// The pages are in order, but not together.
     Week(Refusal),
+}
+
+/// What a program writes, and whether it is a refusal.
+#[derive(Drop)]
+pub struct Answer {
+    pub text: String,
+    pub refused: bool,
 }
 
 /// The line of a refusal that belongs to that page and line.
@@ -49,5 +56,15 @@ pub fn verdict_text(heap: Global, accepted: bool) -> Result<String, AllocError>
         String::from_str(heap, "accepted\n")
     } else {
         String::from_str(heap, "rejected\n")
+    }
+}
+
+/// The line of what a program was told: a verdict, or a refusal.
+pub fn answer_text(heap: Global, judged: Result<bool, Declined>) -> Result<String, AllocError>
+    ensures { λ r. ⌜ made r (λ text. string-bytes text ≡ answer-line judged) ⌝ }
+{
+    match judged {
+        Ok(accepted) => verdict_text(heap, accepted),
+        Err(declined) => refusal_text(heap, declined),
     }
 }

@@ -14,8 +14,10 @@ ghost use Rattle.matching.specs.Lists.{plan-of, certificate-of};
 ghost use Rattle.plan.specs.Held.{held};
 ghost use Rattle.plan.specs.Parts.{ranked, board-of};
 ghost use Rattle.judge.specs.Handed.{judge-refusals};
-ghost use Rattle.commands.specs.Judging.{pages-fit, verdict-refusals, accepts, reaches-number, Judged};
+ghost use Rattle.commands.specs.Judging.{pages-fit, verdict-refusals, accepts, reaches-number, Judged, Answered};
+use crate::answer::Answer;
 use crate::answer::Declined;
+use crate::answer::answer_text;
 use crate::filed_pages::FiledBytes;
 use crate::filed_pages::FiledRead;
 use crate::filed_pages::FiledRoom;
@@ -32,6 +34,7 @@ use priority::ranking::Ranking;
 use refusal::MakeError;
 use refusal::Refusal;
 use source::PairSource;
+use std::alloc::AllocError;
 use std::alloc::Global;
 
 /// Whether the counts of pairs, rankings, plan page and certificate fit together.
@@ -116,4 +119,22 @@ pub fn judge_pages(room: JudgeRoom, bytes: &FiledBytes) -> Result<bool, Declined
         Ok(accepted) => Ok(accepted),
         Err(refusal) => Err(Declined::Week(refusal)),
     }
+}
+
+/// What `weekjudge` writes for the five pages: the verdict on them, or the line of the refusal.
+pub fn judge_answer(heap: Global, room: JudgeRoom, bytes: &FiledBytes) -> Result<Answer, AllocError>
+    ensures { λ r. ⌜ made r (λ answer. Answered (now (now (bytes .entry) .pairs)) (now (now (bytes .entry) .programmes)) (now (now (bytes .entry) .slots)) (now (now (bytes .entry) .plan)) (now (now (bytes .entry) .proof)) answer) ⌝ }
+{
+    let judged = judge_pages(room, bytes);
+    let text = answer_text(heap, judged)?;
+    let Ok(_) = judged else {
+        return Ok(Answer {
+            text,
+            refused: true,
+        });
+    };
+    Ok(Answer {
+        text,
+        refused: false,
+    })
 }

@@ -3,11 +3,10 @@
 //! Reads `pairs.mtx`, `programmes.mtx`, `slots.mtx`, `plan.mtx` and `proof.mtx` in the folder it is run
 //! in, or in the one named by its argument, and writes `accepted` or `rejected`. A refusal is written as
 //! `refused NUMBER PAGE LINE`, and then the status is 1. A missing file is an empty page.
-use commands::answer::refusal_text;
-use commands::answer::verdict_text;
+use commands::answer::Answer;
 use commands::filed_pages::FiledBytes;
 use commands::judging::JudgeRoom;
-use commands::judging::judge_pages;
+use commands::judging::judge_answer;
 use page_text::fault::Page;
 use refusal::MakeErrorDebug;
 use std::env;
@@ -46,16 +45,11 @@ fn judge_folder(rt: &LibcRuntime, folder: &str) -> Result<(), AnyError> {
 
 /// Writes the answer for the pages: a verdict, or the refusal line.
 fn write_answer(rt: &LibcRuntime, room: JudgeRoom, bytes: &FiledBytes) -> Result<(), AnyError> {
-    let answer = judge_pages(room, bytes);
-    let Ok(accepted) = answer else {
-        if let Err(declined) = answer {
-            let line = refusal_text(rt.alloc(), declined)?;
-            print!(rt, "{line}")?;
-        }
+    let Answer { text, refused } = judge_answer(rt.alloc(), room, bytes)?;
+    print!(rt, "{text}")?;
+    if refused {
         return Err("refused".into());
-    };
-    let line = verdict_text(rt.alloc(), accepted)?;
-    print!(rt, "{line}")?;
+    }
     Ok(())
 }
 
