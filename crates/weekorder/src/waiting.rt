@@ -1,4 +1,11 @@
 //! Reading a waiting list: one programme a line, its class and the weeks it has waited.
+ghost use mathlib.Core.Path.{_≡_};
+ghost use Prim.Native.Nat.{min};
+ghost use Rattle.std.specs.Vec.{made};
+ghost use Rattle.refusal.specs.Refusals.{refusal-of};
+ghost use Rattle.page_text.specs.Bytes.{words, numbers as numbersOf};
+ghost use Rattle.weekorder.specs.Waiting.{line-refusal, line-value};
+use page_text::words::numbers;
 use priority::house::House;
 use refusal::Refusal;
 use refusal::limits::SIDE;
@@ -12,30 +19,23 @@ pub struct Fault {
     pub line: usize,
 }
 
-/// A whole number: 1 to 9 digits. One beyond 16 bits is beyond every range, as 65,535 is.
-fn whole(word: &str) -> Result<u16, Refusal> {
-    if word.len() > 9 || !word.bytes().next().unwrap_or(0).is_ascii_digit() {
-        return Err(Refusal::EntryLine);
-    }
-    match word.parse::<u32>() {
-        Ok(value) => Ok(u16::try_from(value).unwrap_or(u16::MAX)),
-        Err(_) => Err(Refusal::EntryLine),
-    }
+/// The number in 16 bits. One beyond them is beyond every range, as 65,535 is.
+fn narrow(number: u32) -> u16
+    ensures { λ r. ⌜ r ≡ min number 65535 ⌝ }
+{
+    if number < 65535 { number as u16 } else { 65535 }
 }
 
-/// The priority that a line gives: two whole numbers in the ranges of the house kind.
-fn priority_of(line: &str) -> Result<House, Refusal> {
-    let mut words = line.split_whitespace();
-    let Some(class) = words.next() else {
+/// The priority that a line gives: two whole numbers, or refusal 6, in the ranges of the house kind,
+/// or refusal 11.
+fn priority_of(line: &[u8]) -> Result<House, Refusal>
+    ensures answer { λ r. ⌜ refusal-of r ≡ line-refusal (numbersOf 2 (words (now (line .entry)))) ⌝ }
+    ensures value { λ r. ⌜ made r (λ house. (house .class, house .weeks) ≡ line-value (numbersOf 2 (words (now (line .entry))))) ⌝ }
+{
+    let Some(found) = numbers::<2>(line) else {
         return Err(Refusal::EntryLine);
     };
-    let Some(weeks) = words.next() else {
-        return Err(Refusal::EntryLine);
-    };
-    if words.next().is_some() {
-        return Err(Refusal::EntryLine);
-    }
-    House::new(whole(class)?, whole(weeks)?)
+    House::new(narrow(found[0]), narrow(found[1]))
 }
 
 /// The list on standard input, or the fault of its first faulty line.
@@ -52,7 +52,7 @@ pub fn read_list<R: Input + Alloc<A = std::alloc::Global>>(
                 line: number,
             }));
         }
-        match priority_of(text.as_str()) {
+        match priority_of(text.as_bytes()) {
             Ok(priority) => list.push(priority)?,
             Err(refusal) => return Ok(Err(Fault {
                 refusal,
@@ -69,7 +69,7 @@ mod tests {
     use std::test::*;
 
     fn refused(line: &str) -> u8 {
-        match priority_of(line) {
+        match priority_of(line.as_bytes()) {
             Ok(_) => 0,
             Err(refusal) => refusal.number(),
         }
