@@ -1,4 +1,6 @@
 //! Bars: an open layer over any source. What is allowed below can be barred here, and lifted again.
+#![tactic(auto)]
+
 ghost use Rattle.std.specs.Prelude.{◌≡◌, true, not, IfOk, None};
 ghost use Rattle.refusal.specs.Limits.{side};
 ghost use Rattle.source.specs.Pairs.{holds, changed, cut};

@@ -1,5 +1,5 @@
 -- Pages that are read one after another.
-use Rattle.std.proofs.Common.{◌≡◌, ℕ, ◌*◌, List, take, Ok, Err, Result, sym, refl, ap, ◌∙◌, suc-ne-zero}
+use Rattle.std.proofs.Common.{◌≡◌, ℕ, ◌*◌, List, take, Ok, Err, Result, sym, ap, ◌∙◌, suc-ne-zero}
 use Rattle.refusal.specs.Limits.{side}
 use Rattle.source.specs.Pairs.{Pairs}
 use Rattle.page_text.specs.declared.fault.Fault.{Fault}
@@ -7,7 +7,7 @@ use Rattle.page_text.specs.declared.fault.Page.TheVariants as page
 use Rattle.pages.specs.Stages.{chain}
 use Rattle.pages.specs.PairPages.{read_pairs}
 use Rattle.priority_pages.specs.PriorityPages.{read_numbers}
-use Rattle.pages.specs.declared.table_pages.Columns.TheVariants.{One, Two}
+use Rattle.pages.specs.declared.table_pages.Columns.TheVariants.{One}
 use Rattle.pages.specs.Stages.{given}
 use Rattle.pages.specs.TablePages.{Sheet, read_table, table_left}
 use Rattle.commands.specs.Pages.{Week, Filed, read_week, read_filed}

@@ -1,5 +1,5 @@
 -- What the judge says of a plan that was filled from a page.
-use Rattle.std.proofs.Common.{◌≡◌, ℕ, ◌+◌, Bool, true, false, cond, not, ◌&&◌, eqb, leb, List, [], ◌∷◌, length, is_some, is_err, IfOk, Some, None, Ok, Err, Option, Result, sym, refl, ap, ◌∙◌, subst}
+use Rattle.std.proofs.Common.{◌≡◌, ℕ, ◌+◌, Bool, true, false, not, ◌&&◌, eqb, List, [], ◌∷◌, length, is_some, is_err, IfOk, Some, None, Ok, Err, Option, Result, sym, refl, ap, ◌∙◌, subst}
 use mathlib.Core.Path.{fun_ext}
 use Rattle.std.proofs.lemmas.Result.{IfOk-weaker}
 use Rattle.std.proofs.lemmas.Bool.{and_parts, and_from, eqb-true, eq-eqb, both_ways, cond-true}
@@ -11,7 +11,7 @@ use Rattle.matching.specs.Check.{passes}
 use Rattle.matching.specs.Lists.{plan_of, certificate_of}
 use Rattle.plan.specs.declared.filling.Twice.{Twice}
 use Rattle.plan.specs.Held.{Held, Sides, everyone}
-use Rattle.plan.specs.Parts.{parts_fit, fits, board_of}
+use Rattle.plan.specs.Parts.{parts_fit, board_of}
 use Rattle.plan.specs.Filling.{first_twice, found_twice, twice_of, PlanOf}
 use Rattle.judge.specs.Handed.{all_fit, judge_refusals}
 use Rattle.commands.specs.Judging.{pages_fit, verdict_refusals, is_plan, accepts}

@@ -1,5 +1,5 @@
 -- The lines that a program writes.
-use Rattle.std.specs.Prelude.{ℕ, Bool, cond, List, [], ◌∷◌, ◌++◌, Ok, Err, codes, decimal, Result}
+use Rattle.std.specs.Prelude.{ℕ, Bool, cond, List, ◌++◌, Ok, Err, codes, decimal, Result}
 use Rattle.refusal.specs.Refusals.{number_of}
 use Rattle.page_text.specs.Faults.{file_name}
 use Rattle.commands.specs.declared.answer.Declined.{Declined}

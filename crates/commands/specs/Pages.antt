@@ -1,5 +1,5 @@
 -- What the pages of a week say, read in their order: the first fault decides.
-use Rattle.std.specs.Prelude.{ℕ, ◌*◌, List, map, take, Ok, Err, vec_items, Result}
+use Rattle.std.specs.Prelude.{ℕ, ◌*◌, List, map, take, Ok, vec_items, Result}
 use Rattle.refusal.specs.Limits.{side}
 use Rattle.source.specs.Pairs.{Pairs}
 use Rattle.grid.specs.GridPairs.{grid_pairs}
@@ -8,7 +8,7 @@ use Rattle.page_text.specs.declared.fault.Page.TheVariants as page
 use Rattle.pages.specs.Stages.{chain}
 use Rattle.pages.specs.PairPages.{read_pairs}
 use Rattle.priority_pages.specs.PriorityPages.{number_of, read_numbers}
-use Rattle.pages.specs.declared.table_pages.Columns.TheVariants.{One, Two}
+use Rattle.pages.specs.declared.table_pages.Columns.TheVariants.{One}
 use Rattle.pages.specs.TablePages.{read_table}
 use Rattle.commands.specs.declared.week_pages.WeekRead.{WeekRead}
 use Rattle.commands.specs.declared.filed_pages.FiledRead.{FiledRead}

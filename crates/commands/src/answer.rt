@@ -4,6 +4,7 @@ ghost use Rattle.refusal.specs.Refusals.{number_of};
 ghost use Rattle.commands.specs.Answers.{line_at, refusal_line, verdict_line, answer_line};
 
 use page_text::fault::Fault;
+use page_writer::PageText;
 use refusal::Refusal;
 use std::alloc::{AllocError, Global};
 
@@ -20,6 +21,13 @@ pub enum Declined {
 #[derive(Drop)]
 pub struct Answer {
     pub text: String,
+    pub refused: bool,
+}
+
+/// The text that a program writes in reserved room, and whether it is a refusal.
+#[derive(Drop)]
+pub struct Written {
+    pub text: PageText,
     pub refused: bool,
 }
 

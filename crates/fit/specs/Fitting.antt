@@ -1,5 +1,5 @@
 -- Which programme fits which slot.
-use Rattle.std.specs.Prelude.{ℕ, Bool, false, ◌&&◌, List, length, Some, None, vec_items, Option, nat_le}
+use Rattle.std.specs.Prelude.{Bool, false, ◌&&◌, List, length, Some, None, vec_items, Option, nat_le}
 use Rattle.refusal.specs.Counting.{◌implies◌}
 use Rattle.refusal.specs.Tables.{item}
 use Rattle.source.specs.Pairs.{Pairs}

@@ -1,5 +1,7 @@
 //! The fit source: a programme may run in a slot that is long enough and, if it is for late hours only,
 //! starts late enough. It is not open: what fits is settled by the lengths and times.
+#![tactic(auto)]
+
 ghost use Rattle.std.specs.Prelude.{◌≡◌, ◌≤◌, vec_len};
 ghost use Rattle.refusal.specs.Limits.{side};
 

@@ -1,6 +1,8 @@
 //! A grid: a table of allowed pairs, edited pair by pair. Every pair within its counts is possible.
 //!
 //! A grid is made with cells for `SIDE` programmes and `SIDE` slots, so that no later call wants memory.
+#![tactic(auto)]
+
 ghost use Rattle.std.specs.Prelude.{◌≡◌, ◌*◌, ◌≤◌, vec_len};
 ghost use Rattle.refusal.specs.Limits.{side};
 

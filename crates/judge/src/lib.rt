@@ -3,6 +3,8 @@
 //! What passing means, and why a plan that passes is best, stands in the crate `matching`; the judge's
 //! answer is equated with its test `passes`. The rules are read once for the programmes and once, by
 //! the same code, for the slots: on the view with its sides exchanged.
+#![tactic(auto)]
+
 ghost use Rattle.std.specs.Prelude.{◌≡◌, true, length, IfOk};
 ghost use Rattle.refusal.specs.Refusals.{refusal_of, first_refusal};
 ghost use Rattle.matching.specs.Board.{Best};

@@ -4,6 +4,8 @@
 //! gives the rules that a certificate keeps, `Check` has the same rules as a test that computes, and
 //! `Lists` reads plans and certificates from lists of numbers. Each function here does nothing: its
 //! contract is a theorem about these definitions, for every kind of priority.
+#![tactic(auto)]
+
 ghost use Rattle.matching.specs.Certificate.{PassingIsBest, BestPlansAgree};
 ghost use Rattle.matching.specs.Check.{TestIsExact, TestedIsBest};
 

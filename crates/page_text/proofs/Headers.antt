@@ -1,12 +1,13 @@
 -- Lemmas on the kind of a line and the words of a header.
-use Rattle.std.proofs.Common.{◌≡◌, ℕ, ◌<◌, Bool, true, false, cond, ◌&&◌, eqb, List, [], ◌∷◌, map, length, get_or, codes, Decides, MatchBool, sym, refl, ap, ◌∙◌, arith}
-use Rattle.std.specs.Cmp.Lexicographic.{Matches}
+use Rattle.std.proofs.Common.{◌≡◌, ℕ, ◌<◌, Bool, true, false, ◌&&◌, not, eqb, List, [], ◌∷◌, map, length, get_or, codes, MatchBool, sym, refl, ap, ◌∙◌, arith}
+use Rattle.std.proofs.Math.Bool.{not-not}
+use lib.Pointwise.{pointwise}
 use Rattle.std.specs.Char.{to_ascii_lowercase}
 use Rattle.std.specs.Str.{bytes_eq}
-use Rattle.std.proofs.lemmas.Slice.Eq.{bytes_eq-Decides, slice_eq-Decides}
-use Rattle.std.proofs.lemmas.Bool.Decides.{same_from_decides, Decides-eqb}
-use Rattle.std.proofs.lemmas.Bool.{cond-true, cond-false, ne_eqb}
-use Rattle.page_text.specs.declared.line.LineKind.TheVariants.{Blank, Comment, Text}
+use Rattle.std.proofs.lemmas.Slice.Eq.{bytes_eq-Decides}
+use Rattle.std.proofs.lemmas.Bool.Decides.{same_from_decides}
+use Rattle.std.proofs.lemmas.Bool.{cond-false, ne_eqb}
+use Rattle.page_text.specs.declared.line.LineKind.TheVariants.{Blank, Text}
 use Rattle.page_text.specs.Bytes.{words}
 use Rattle.page_text.specs.Lines.{line_kind, by_words, alike, titled}
 
@@ -51,5 +52,5 @@ pub begins_none : (line : List ℕ) (b : ℕ) → length line ≡ 0 → 0 < b �
 begins_none [] b e h = sym (ne_eqb 0 b (λ z. omega arith))
 begins_none (x ∷ line) b e h = absurd (omega arith)
 
-pub matched : (xs ys : List ℕ) (r : Bool) → Matches (λ (a b : ℕ) (t : Bool). Decides t (a ≡ b)) xs ys r → r ≡ bytes_eq xs ys
-matched xs ys r h = same_from_decides r (bytes_eq xs ys) (slice_eq-Decides Decides-eqb xs ys r h) (bytes_eq-Decides xs ys)
+pub matched : (xs ys zs : List ℕ) (r : Bool) → r ≡ not (pointwise eqb xs ys) → ys ≡ zs → not r ≡ bytes_eq xs zs
+matched xs ys zs r h e = rw (h, e) (not-not (bytes_eq xs zs))

@@ -1,5 +1,7 @@
 //! The text of a page: its lines, their words, the whole numbers these write, and the fault with
 //! which a page is refused.
+#![tactic(auto)]
+
 mod bytes;
 pub mod fault;
 pub mod limits;

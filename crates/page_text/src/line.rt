@@ -88,7 +88,7 @@ fn is_titled(line: &[u8], kind: PageKind) -> bool
     let Some(title) = words.next() else {
         return false;
     };
-    if !title.eq(b"%%MatrixMarket") {
+    if title != b"%%MatrixMarket".as_slice() {
         return false;
     }
     same_words(words.rest, kind.words())

@@ -1,4 +1,6 @@
 //! Tries pages on the running code and prints what each gives: a line for each case.
+#![tactic(auto)]
+
 mod limits;
 mod pairs;
 mod show;

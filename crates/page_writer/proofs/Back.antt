@@ -1,6 +1,6 @@
 -- A written line is read back: its words, its numbers, its kind.
-use Rattle.std.proofs.Common.{◌≡◌, ℕ, suc, ◌+◌, ◌-◌, ◌*◌, ◌^◌, ◌<◌, ◌≤◌, Bool, true, false, cond, not, ◌&&◌, ◌||◌, eqb, leb, List, [], ◌∷◌, ◌++◌, map, length, get_or, Some, None, decimal, Option, sym, refl, ap, ◌∙◌, append_assoc, append-nil, arith, length-append, rules}
-use Rattle.std.specs.List.{flat_map, AllByRecursion as All}
+use Rattle.std.proofs.Common.{◌≡◌, ℕ, ◌+◌, ◌-◌, ◌*◌, ◌^◌, ◌<◌, ◌≤◌, Bool, true, false, not, ◌&&◌, eqb, leb, List, [], ◌∷◌, ◌++◌, map, length, get_or, Some, decimal, sym, refl, ap, ◌∙◌, append_assoc, append-nil, arith, length-append, rules}
+use Rattle.std.specs.List.{flat_map, AllByRecursion}
 use Rattle.std.specs.Char.{is_ascii_digit}
 use Rattle.std.specs.Str.{all_ascii_digits}
 use Rattle.std.proofs.lemmas.Str.Parse.{IsNumeralModel, numerals_by_fold}
@@ -17,7 +17,7 @@ use Rattle.page_writer.proofs.Digits.{decimal_short}
 
 -- bytes that the test does not pick
 abbrev pub Free : (ℕ → Bool) → List ℕ → Type 0
-Free test w = All (λ b. test b ≡ false) w
+Free test w = AllByRecursion (λ b. test b ≡ false) w
 
 free_append : (test : ℕ → Bool) (v w : List ℕ) → Free test v → Free test w → Free test (v ++ w)
 free_append test [] w f g = g
@@ -101,7 +101,7 @@ module _ (n : ℕ) (h : n < 10 ^ 9) where
   whole_decimal = whole_fits (decimal n) decimal_long (decimal_short n h) ∙ digits_read 0 (decimal n) decimal_digits ∙ ap Some (digits_value-decimal own n (omega arith))
 
 abbrev pub Small : List ℕ → Type 0
-Small ns = All (λ n. n < 10 ^ 9) ns
+Small ns = AllByRecursion (λ n. n < 10 ^ 9) ns
 
 -- a written line is read back
 words_line : (n : ℕ) (ns : List ℕ) → n < 10 ^ 9 → Small ns → words (number_text n ns) ≡ decimal n ∷ map decimal ns

@@ -1,6 +1,6 @@
 -- Lemmas on how numbers are written.
-use Rattle.std.proofs.Common.{◌≡◌, ℕ, zero, suc, ◌+◌, ◌/◌, ◌%◌, ◌^◌, ◌<◌, ◌≤◌, List, [], ◌∷◌, ◌++◌, length, get_or, take, decimal, sym, refl, ap, ◌∙◌, append_assoc, arith, length-append}
-use Rattle.std.specs.List.{flat_map, AllByRecursion as All}
+use Rattle.std.proofs.Common.{◌≡◌, ℕ, zero, suc, ◌+◌, ◌/◌, ◌%◌, ◌^◌, ◌<◌, ◌≤◌, List, [], ◌∷◌, ◌++◌, length, get_or, take, decimal, sym, ap, ◌∙◌, append_assoc, arith}
+use Rattle.std.specs.List.{flat_map, AllByRecursion}
 use Rattle.std.proofs.lemmas.List.{length_push, flat_map_more, take_more, take_all}
 use Rattle.std.proofs.lemmas.Fmt.{decimal_digit, decimal_step, length-decimal-le}
 use Rattle.page_writer.specs.Texts.{spaced, number_line}
@@ -21,7 +21,11 @@ push_last text out n h f = let m : n % 10 ≡ n = omega arith in f ∙ ap (λ d.
 pub decimal_short : (n : ℕ) → n < 10 ^ 9 → length (decimal n) ≤ 9
 decimal_short n h = length-decimal-le 9 n (omega arith) h (omega arith)
 
-pub small_at : (xs : List ℕ) → All (λ n. n < 10 ^ 9) xs → (i : ℕ) → get_or xs i 0 < 10 ^ 9
+-- any number that the machine holds
+pub decimal_fits : (n : ℕ) → n < 2 ^ 64 → length (decimal n) ≤ 20
+decimal_fits n h = length-decimal-le 20 n (omega arith) (omega arith) h
+
+pub small_at : (xs : List ℕ) → AllByRecursion (λ n. n < 10 ^ 9) xs → (i : ℕ) → get_or xs i 0 < 10 ^ 9
 small_at [] a i = omega arith
 small_at (x ∷ xs) a zero = a.0
 small_at (x ∷ xs) a (suc i) = small_at xs a.1 i
@@ -35,3 +39,9 @@ spaced_more start text mid out xs i e f g h =
 pub line_done : (start first text out xs : List ℕ) (n i : ℕ) → first ≡ start ++ decimal n → text ≡ first ++ flat_map spaced (take i xs) → length xs ≤ i → out ≡ text ++ 10 ∷ [] → out ≡ start ++ number_line n xs
 line_done start first text out xs n i e f h g =
     g ∙ ap (λ t. t ++ 10 ∷ []) (f ∙ ap (λ ys. first ++ flat_map spaced ys) (take_all i xs h) ∙ ap (λ t. t ++ flat_map spaced xs) e) ∙ simp append_assoc
+
+-- the line of a refusal is done
+pub refusal_done : (t0 t1 t2 t3 t4 t5 t6 t7 word space number page bytes line feed : List ℕ)
+    → t0 ≡ [] → t1 ≡ t0 ++ word → t2 ≡ t1 ++ number → t3 ≡ t2 ++ space → t4 ≡ t3 ++ bytes → bytes ≡ page → t5 ≡ t4 ++ space → t6 ≡ t5 ++ line → t7 ≡ t6 ++ feed
+    → t7 ≡ word ++ (number ++ (space ++ (page ++ (space ++ (line ++ feed)))))
+refusal_done t0 t1 t2 t3 t4 t5 t6 t7 word space number page bytes line feed e0 e1 e2 e3 e4 e5 e6 e7 e8 = rw (e8, e7, e6, e4, e3, e2, e1, e0, e5) (simp append_assoc)

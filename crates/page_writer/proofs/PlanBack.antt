@@ -1,10 +1,9 @@
 -- The page of a plan is read back as the plan.
-use Rattle.std.proofs.Common.{◌≡◌, ℕ, zero, suc, ◌+◌, ◌*◌, ◌^◌, ◌<◌, ◌≤◌, min, Bool, true, false, cond, ◌&&◌, ◌||◌, eqb, leb, List, [], ◌∷◌, ◌++◌, length, Ok, sym, refl, ap, ◌∙◌, subst, ⊎_elim, append-nil, suc-mul, arith, length-append}
+use Rattle.std.proofs.Common.{◌≡◌, ℕ, zero, suc, ◌*◌, ◌^◌, ◌<◌, ◌≤◌, Bool, true, false, ◌&&◌, ◌||◌, eqb, List, [], ◌∷◌, ◌++◌, length, Ok, sym, refl, ap, ◌∙◌, subst, ⊎_elim, append-nil, suc-mul, arith, length-append}
 use mathlib.Core.Path.{fun_ext}
-use Rattle.std.specs.List.{flat_map, AllByRecursion as All}
-use Rattle.std.proofs.lemmas.Bool.{cases_Bool, cond-true, cond-false, and_from, and_right, or_from, eqb-true, eq-eqb, ne_eqb}
+use Rattle.std.specs.List.{flat_map, AllByRecursion}
+use Rattle.std.proofs.lemmas.Bool.{cases_Bool, cond-true, cond-false, and_from, and_right, or_from, eqb-true, ne_eqb}
 use Rattle.std.proofs.lemmas.Bool.Decides.{nat_tests}
-use Rattle.refusal.specs.Limits.{side}
 use Rattle.refusal.specs.Counting.{within}
 use Rattle.refusal.specs.Tables.{at}
 use Rattle.refusal.proofs.Counts.{within_bounds, within_from}
@@ -12,17 +11,17 @@ use Rattle.page_text.specs.declared.fault.Page.{Page}
 use Rattle.page_text.specs.declared.line.PageKind.TheVariants as kind-of
 use Rattle.page_text.specs.Limits.{page_limit}
 use Rattle.pages.specs.PairPages.{read_pairs}
-use Rattle.pages.specs.PageLaws.{listed, Apart, PairsFit, listed_pairs}
+use Rattle.pages.specs.PageLaws.{listed, Apart, PairsFit}
 use Rattle.pages.proofs.PairLaws.{pairs_law}
 use Rattle.page_writer.specs.Texts.{title, number_line}
 use Rattle.page_writer.specs.PlanPage.{plan_rows, plan_columns, place_of, places, pair_line, pairs_page, plan_page, plan_pairs}
 use Rattle.page_writer.proofs.Trip.{three_parts, Written, made}
 
-all_append : {X : Type 0} (P : X → Type 0) (xs ys : List X) → All P xs → All P ys → All P (xs ++ ys)
+all_append : {X : Type 0} (P : X → Type 0) (xs ys : List X) → AllByRecursion P xs → AllByRecursion P ys → AllByRecursion P (xs ++ ys)
 all_append P [] ys f g = g
 all_append P (x ∷ xs) ys f g = (f.0, all_append P xs ys f.1 g)
 
-all_map : {X : Type 0} (P Q : X → Type 0) → ((x : X) → P x → Q x) → (xs : List X) → All P xs → All Q xs
+all_map : {X : Type 0} (P Q : X → Type 0) → ((x : X) → P x → Q x) → (xs : List X) → AllByRecursion P xs → AllByRecursion Q xs
 all_map P Q f [] a = tt
 all_map P Q f (x ∷ xs) a = (f x a.0, all_map P Q f xs a.1)
 
@@ -48,7 +47,7 @@ within_zero : (i : ℕ) → within 0 i ≡ false
 within_zero i = grind (arith, nat_tests)
 
 -- pairs of lower programmes, and one more
-apart_push : (ps : List (ℕ × ℕ)) (i s : ℕ) → All (λ p. p.0 < i) ps → Apart ps → Apart (ps ++ (i, s) ∷ [])
+apart_push : (ps : List (ℕ × ℕ)) (i s : ℕ) → AllByRecursion (λ p. p.0 < i) ps → Apart ps → Apart (ps ++ (i, s) ∷ [])
 apart_push [] i s b a = (refl, tt)
 apart_push (p ∷ ps) i s b a =
     let other : eqb i p.0 ≡ false = ne_eqb i p.0 (λ e. omega (arith, b.0)) in
@@ -68,12 +67,12 @@ module _ (columns : ℕ) (t : List ℕ) where
         (λ h. subst P (sym (cond-false (within columns (at 0 t i)) _ _ h)) (none h))
         (cases_Bool (within columns (at 0 t i)))
 
-  places_in : (n : ℕ) → All (In n) (places columns t n)
+  places_in : (n : ℕ) → AllByRecursion (In n) (places columns t n)
   places_in zero = tt
   places_in (suc n) =
       all_append (In (suc n)) (places columns t n) (place_of columns t (suc n))
       (all_map (In n) (In (suc n)) (λ p h. (h.0, omega (arith, h.1), h.2)) (places columns t n) (places_in n))
-      (place_cases (All (In (suc n))) (suc n) (λ h. ((omega arith, omega arith, h), tt)) (λ h. tt))
+      (place_cases (AllByRecursion (In (suc n))) (suc n) (λ h. ((omega arith, omega arith, h), tt)) (λ h. tt))
 
   places_apart : (n : ℕ) → Apart (places columns t n)
   places_apart zero = tt
@@ -154,7 +153,7 @@ module _ (slots : ℕ) (t : List ℕ) where
         inner = all_map (In columns t rows) (λ p. (within rows p.0 && within columns p.1) ≡ true) (λ p k. and_from _ _ (within_from rows p.0 k.0 k.1) k.2) ps inner;
         apart = places_apart columns t rows;
       } in
-      let small : All (Written 1 (λ (p : ℕ × ℕ). p.0) (λ (p : ℕ × ℕ). p.1 ∷ []) (omega arith) (λ p. refl)) ps =
+      let small : AllByRecursion (Written 1 (λ (p : ℕ × ℕ). p.0) (λ (p : ℕ × ℕ). p.1 ∷ []) (omega arith) (λ p. refl)) ps =
       all_map (In columns t rows) _ (λ p k. (omega (arith, k.1), (omega (arith, within_bounds columns p.1 k.2), tt))) ps inner in
       let few : length ps < 10 ^ 9 = omega (arith, places_rows columns t rows) in
       pairs_law page text rows columns ps (made 1 (λ (p : ℕ × ℕ). p.0) (λ (p : ℕ × ℕ). p.1 ∷ []) (omega arith) (λ p. refl) kind-of.Pairs rows (columns ∷ length ps ∷ []) ps text (omega arith) (omega arith, (few, tt)) (omega arith) small e h) fit

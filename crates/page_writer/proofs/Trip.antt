@@ -1,12 +1,12 @@
 -- A written page is made as the format says: its header, its size line, and a line for each entry.
-use Rattle.std.proofs.Common.{◌≡◌, ℕ, suc, ◌+◌, ◌*◌, ◌^◌, ◌<◌, ◌≤◌, Bool, true, false, List, [], ◌∷◌, ◌++◌, map, length, Some, codes, sym, refl, ap, ◌∙◌, subst, append_assoc, arith}
-use Rattle.std.specs.List.{flat_map, AllByRecursion as All}
+use Rattle.std.proofs.Common.{◌≡◌, ℕ, suc, ◌^◌, ◌<◌, ◌≤◌, true, List, [], ◌∷◌, ◌++◌, map, length, codes, sym, refl, ap, ◌∙◌, append_assoc, arith}
+use Rattle.std.specs.List.{flat_map, AllByRecursion}
 use Rattle.page_text.specs.declared.line.PageKind.{PageKind}
 use Rattle.page_text.specs.declared.line.PageKind.TheVariants.{Pairs, Table}
 use Rattle.page_text.specs.Limits.{page_limit}
 use Rattle.page_text.specs.Bytes.{feed, words, numbers}
 use Rattle.page_text.specs.Lines.{lines, header}
-use Rattle.pages.specs.PageLaws.{Short, Says, none, skip, entry, MadeOf}
+use Rattle.pages.specs.PageLaws.{Short, Says, none, entry, MadeOf}
 use Rattle.page_writer.specs.Texts.{title, number_text, number_line}
 use Rattle.page_writer.proofs.Back.{free_clear, lines_cut, Small, numbers_line, kind_line, short_line, lines_line}
 
@@ -32,11 +32,11 @@ module _ {X : Type 0} (k : ℕ) (first : X → ℕ) (more : X → List ℕ) (few
   abbrev pub Written : X → Type 0
   Written x = (first x < 10 ^ 9) × Small (more x)
 
-  entry_lines : (xs : List X) → All Written xs → lines (flat_map (λ x. number_line (first x) (more x)) xs) ≡ map (λ x. number_text (first x) (more x)) xs
+  entry_lines : (xs : List X) → AllByRecursion Written xs → lines (flat_map (λ x. number_line (first x) (more x)) xs) ≡ map (λ x. number_text (first x) (more x)) xs
   entry_lines [] a = refl
   entry_lines (x ∷ xs) a = lines_line (first x) (more x) a.0.0 a.0.1 _ ∙ ap (λ ls. number_text (first x) (more x) ∷ ls) (entry_lines xs a.1)
 
-  says : (xs : List X) → All Written xs → Says (suc k) (map (λ x. number_text (first x) (more x)) xs) (map (λ x. first x ∷ more x) xs)
+  says : (xs : List X) → AllByRecursion Written xs → Says (suc k) (map (λ x. number_text (first x) (more x)) xs) (map (λ x. first x ∷ more x) xs)
   says [] a = none
   says (x ∷ xs) a =
       let h = a.0.0 in
@@ -47,7 +47,7 @@ module _ {X : Type 0} (k : ℕ) (first : X → ℕ) (more : X → List ℕ) (few
       (ap (λ m. numbers (suc m) (words (number_text (first x) (more x)))) (sym (same x)) ∙ numbers_line (first x) (more x) h s)
       (says xs a.1)
 
-  pub made : (kind : PageKind) (n : ℕ) (ns : List ℕ) (xs : List X) (bytes : List ℕ) → n < 10 ^ 9 → Small ns → length ns ≤ 9 → All Written xs → bytes ≡ title kind ++ (number_line n ns ++ flat_map (λ x. number_line (first x) (more x)) xs) → length bytes ≤ page_limit → MadeOf kind (suc k) bytes (n ∷ ns) (map (λ x. first x ∷ more x) xs)
+  pub made : (kind : PageKind) (n : ℕ) (ns : List ℕ) (xs : List X) (bytes : List ℕ) → n < 10 ^ 9 → Small ns → length ns ≤ 9 → AllByRecursion Written xs → bytes ≡ title kind ++ (number_line n ns ++ flat_map (λ x. number_line (first x) (more x)) xs) → length bytes ≤ page_limit → MadeOf kind (suc k) bytes (n ∷ ns) (map (λ x. first x ∷ more x) xs)
   made kind n ns xs bytes h s l a e b =
       record {
         short = b;

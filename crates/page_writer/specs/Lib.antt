@@ -1,3 +1,4 @@
 pub mod Texts
 pub mod PlanPage
 pub mod TablePage
+pub mod AnswerLines

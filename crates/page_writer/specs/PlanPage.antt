@@ -1,5 +1,5 @@
 -- The page of a plan: one pair a line, by rising programme.
-use Rattle.std.specs.Prelude.{ℕ, zero, suc, min, Bool, cond, ◌&&◌, List, [], ◌∷◌, ◌++◌, length, ◌==◌}
+use Rattle.std.specs.Prelude.{ℕ, zero, suc, min, cond, ◌&&◌, List, [], ◌∷◌, ◌++◌, length, ◌==◌}
 use Rattle.std.specs.List.{flat_map}
 use Rattle.refusal.specs.Limits.{side}
 use Rattle.refusal.specs.Counting.{within}

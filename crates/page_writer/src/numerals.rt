@@ -1,6 +1,6 @@
 //! How numbers are written: in decimal digits, with single spaces between them and a line feed at the end.
 ghost use Rattle.std.specs.Prelude.{◌≡◌, ◌+◌, ◌*◌, ◌^◌, ◌<◌, ◌≤◌, ◌++◌, length, decimal};
-ghost use Rattle.std.specs.List.{AllByRecursion as All};
+ghost use Rattle.std.specs.List.{AllByRecursion};
 ghost use Rattle.page_text.specs.Limits.{page_limit};
 ghost use Rattle.page_writer.specs.Texts.{text_of, number_line};
 
@@ -23,7 +23,7 @@ impl PageText {
     pub(crate) fn push_line(&mut self, first: usize, rest: &[usize])
         requires room { length (text_of self.old) + 10 * (1 + length rest.now) ≤ page_limit }
         requires first { first < 10 ^ 9 }
-        requires rest { All (λ n. n < 10 ^ 9) rest.now }
+        requires rest { AllByRecursion (λ n. n < 10 ^ 9) rest.now }
         ensures text { text_of self.new ≡ text_of self.old ++ number_line first rest.now }
         ensures longer { length (text_of self.new) ≤ length (text_of self.old) + 10 * (1 + length rest.now) }
     {

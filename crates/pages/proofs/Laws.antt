@@ -1,19 +1,17 @@
 -- A page made as the format says is read as its entries, and the first faulty line decides: for any format.
-use Rattle.std.proofs.Common.{◌≡◌, ℕ, suc, ◌+◌, ◌-◌, ◌<◌, ◌≤◌, Bool, true, false, cond, eqb, ltb, ◌⊎◌, List, [], ◌∷◌, ◌++◌, length, Some, Ok, Err, Result, sym, refl, ap, ◌∙◌, ⊎_elim, add-zero, arith}
-use Rattle.std.specs.List.{AllByRecursion as All}
+use Rattle.std.proofs.Common.{◌≡◌, ℕ, ◌+◌, ◌-◌, ◌≤◌, false, eqb, ltb, List, [], ◌∷◌, ◌++◌, length, Some, Ok, Err, Result, sym, refl, ap, ◌∙◌, ⊎_elim, add-zero, arith}
+use Rattle.std.specs.List.{AllByRecursion}
 use Rattle.std.proofs.lemmas.Bool.{cond-true, cond-false, le-ltb, eq-eqb, ne_eqb}
 use Rattle.refusal.specs.declared.Refusal.{Refusal}
-use Rattle.page_text.specs.declared.fault.Fault.{Fault}
 use Rattle.page_text.specs.declared.fault.Page.{Page}
-use Rattle.page_text.specs.declared.line.LineKind.TheVariants.{Blank, Comment, Text}
 use Rattle.page_text.specs.Limits.{page_limit, line_limit}
 use Rattle.page_text.specs.Faults.{told}
 use Rattle.page_text.specs.Bytes.{words, numbers}
 use Rattle.page_text.specs.Lines.{lines, line_kind, header}
-use Rattle.pages.specs.declared.stages.Stage.TheVariants.{Header, Size, Entries}
+use Rattle.pages.specs.declared.stages.Stage.TheVariants.{Size, Entries}
 use Rattle.pages.specs.declared.stages.Task.{Task}
 use Rattle.pages.specs.declared.stages.Task.TheVariants as for
-use Rattle.pages.specs.Stages.{chain, Reading, starting, taken, taken_line, Format, done, step, reads, read_page}
+use Rattle.pages.specs.Stages.{chain, Reading, starting, taken, Format, done, step, reads, read_page}
 use Rattle.pages.specs.PageLaws.{Short, Passed, Says, none, skip, entry, MadeOf, runs}
 
 module _ {X : Type 0} (f : Format X) where
@@ -49,7 +47,7 @@ module _ {X : Type 0} (f : Format X) where
   abbrev at_size : Reading
   at_size = record { stage = Size; left = 0 }
 
-  notes_law : (page : Page) (n : ℕ) (x : X) (cs ls : List (List ℕ)) → All Passed cs → reads f page n (at_size, x) (cs ++ ls) ≡ reads f page (n + length cs) (at_size, x) ls
+  notes_law : (page : Page) (n : ℕ) (x : X) (cs ls : List (List ℕ)) → AllByRecursion Passed cs → reads f page n (at_size, x) (cs ++ ls) ≡ reads f page (n + length cs) (at_size, x) ls
   notes_law page n x [] ls a = ap (λ m. reads f page m (at_size, x) ls) (sym (add-zero n))
   notes_law page n x (c ∷ cs) ls a =
       onward page n (at_size, x) (at_size, x) c (cs ++ ls) (step_taken at_size at_size x c for.Skip a.0.0 (⊎_elim (λ b. ap (λ d. taken f.kind Size d at_size c) b) (λ b. ap (λ d. taken f.kind Size d at_size c) b) a.0.1))

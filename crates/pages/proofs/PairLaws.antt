@@ -1,7 +1,7 @@
 -- A page made of pairs that fit is read as exactly those pairs.
-use Rattle.std.proofs.Common.{◌≡◌, ℕ, ◌*◌, ◌≤◌, Bool, true, false, cond, ◌&&◌, ◌||◌, eqb, leb, List, [], ◌∷◌, map, length, Some, Ok, Err, Result, sym, refl, ap, ◌∙◌, ⊎_elim, arith}
+use Rattle.std.proofs.Common.{◌≡◌, ℕ, ◌*◌, Bool, true, false, cond, ◌&&◌, ◌||◌, eqb, leb, List, [], ◌∷◌, map, length, Some, Ok, Result, sym, refl, ap, ◌∙◌, ⊎_elim, arith}
 use mathlib.Core.Path.{fun_ext}
-use Rattle.std.specs.List.{AllByRecursion as All}
+use Rattle.std.specs.List.{AllByRecursion}
 use Rattle.std.proofs.lemmas.List.{length-map}
 use Rattle.std.proofs.lemmas.Bool.{cases_Bool, cond-true, cond-false, le-leb, and_from, and_right, eq-eqb, ne_eqb, eqb-true, eqb-false}
 use Rattle.refusal.specs.Limits.{side}
@@ -12,7 +12,7 @@ use Rattle.page_text.specs.declared.fault.Page.{Page}
 use Rattle.page_text.specs.Bytes.{words, numbers}
 use Rattle.pages.specs.Stages.{given}
 use Rattle.pages.specs.PairPages.{pair_format, pair_numbers, pairs_sizes, read_pairs}
-use Rattle.pages.specs.PageLaws.{listed, Apart, PairsFit, listed_pairs, ReadsPairs, FirstFault, MadeOf}
+use Rattle.pages.specs.PageLaws.{listed, Apart, ReadsPairs, FirstFault}
 use Rattle.pages.proofs.Laws.{Leads, page_law, first_fault}
 use Rattle.pages.proofs.Steps.{given_err}
 
@@ -51,18 +51,18 @@ left_out : (a b : Bool) → (a || b) ≡ false → (a ≡ false) × (b ≡ false
 left_out true b h = absurd (let z : ◌≡◌ {A = ℕ} 0 1 = cc in omega arith)
 left_out false b h = (refl, h)
 
-still_out : (f : ℕ → ℕ → Bool) (p : ℕ × ℕ) (ps : List (ℕ × ℕ)) → listed ps p.0 p.1 ≡ false → All (λ q. f q.0 q.1 ≡ false) ps → All (λ q. with_pair f p.0 p.1 true q.0 q.1 ≡ false) ps
+still_out : (f : ℕ → ℕ → Bool) (p : ℕ × ℕ) (ps : List (ℕ × ℕ)) → listed ps p.0 p.1 ≡ false → AllByRecursion (λ q. f q.0 q.1 ≡ false) ps → AllByRecursion (λ q. with_pair f p.0 p.1 true q.0 q.1 ≡ false) ps
 still_out f p [] h a = tt
 still_out f p (q ∷ qs) h a =
     let o = left_out (eqb q.0 p.0 && eqb q.1 p.1) (listed qs p.0 p.1) h in
     let other : (eqb p.0 q.0 && eqb p.1 q.1) ≡ false = rw (eqb_sym p.0 q.0, eqb_sym p.1 q.1) o.0 in
     (cond-false (eqb p.0 q.0 && eqb p.1 q.1) _ _ other ∙ a.0, still_out f p qs o.1 a.1)
 
-new_apart : (f : ℕ → ℕ → Bool) (ps : List (ℕ × ℕ)) → Apart ps → All (λ q. f q.0 q.1 ≡ false) ps → New f ps
+new_apart : (f : ℕ → ℕ → Bool) (ps : List (ℕ × ℕ)) → Apart ps → AllByRecursion (λ q. f q.0 q.1 ≡ false) ps → New f ps
 new_apart f [] a o = tt
 new_apart f (p ∷ ps) a o = (o.0, new_apart (with_pair f p.0 p.1 true) ps a.1 (still_out f p ps a.0 o.1))
 
-all_false : (ps : List (ℕ × ℕ)) → All (λ q. false ≡ false) ps
+all_false : (ps : List (ℕ × ℕ)) → AllByRecursion (λ q. false ≡ false) ps
 all_false [] = tt
 all_false (p ∷ ps) = (refl, all_false ps)
 
@@ -74,7 +74,7 @@ module _ (rows columns : ℕ) where
   put_one f i s l h n e =
       ap (pair_numbers (pairs f)) e ∙ cond-true (inside (pairs f) i s) _ _ h ∙ cond-false (holds (pairs f) i s) _ _ (and_right _ _ n)
 
-  leads : (f : ℕ → ℕ → Bool) (ps : List (ℕ × ℕ)) → All (λ p. (within rows p.0 && within columns p.1) ≡ true) ps → New f ps → Leads pair_format 2 (pairs f) (map (λ p. p.0 ∷ p.1 ∷ []) ps) (pairs (sown f ps))
+  leads : (f : ℕ → ℕ → Bool) (ps : List (ℕ × ℕ)) → AllByRecursion (λ p. (within rows p.0 && within columns p.1) ≡ true) ps → New f ps → Leads pair_format 2 (pairs f) (map (λ p. p.0 ∷ p.1 ∷ []) ps) (pairs (sown f ps))
   leads f [] a n = refl
   leads f (p ∷ ps) a n = (pairs (with_pair f p.0 p.1 true), λ l e. put_one f p.0 p.1 l a.0 n.0 e, leads (with_pair f p.0 p.1 true) ps a.1 n.1)
 

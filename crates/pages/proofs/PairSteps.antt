@@ -1,5 +1,5 @@
 -- Lemmas on the lines of a page of pairs.
-use Rattle.std.proofs.Common.{◌≡◌, ℕ, Bool, true, false, Some, sym, refl, ap, ◌∙◌, ⊎_elim, arith}
+use Rattle.std.proofs.Common.{◌≡◌, ℕ, true, Some, ⊎_elim, arith}
 use Rattle.std.proofs.lemmas.Bool.{cases_Bool}
 use Rattle.refusal.specs.Refusals.{first_refusal}
 use Rattle.source.specs.Pairs.{Pairs, inside, holds}

@@ -1,19 +1,16 @@
 -- Lemmas on one line of a page, and on the loop over its lines, for any format.
-use Rattle.std.proofs.Common.{◌≡◌, ℕ, ◌+◌, ◌≤◌, Bool, true, false, cond, eqb, ltb, List, [], ◌∷◌, length, IfOk, Ok, Err, Result, sym, refl, ap, ◌∙◌, arith}
-use Rattle.std.proofs.lemmas.Bool.{cond-false, le-ltb}
+use Rattle.std.proofs.Common.{◌≡◌, ℕ, Bool, true, false, cond, eqb, List, IfOk, Ok, Err, Result, sym, refl, ap, ◌∙◌, arith}
 use Rattle.refusal.specs.declared.Refusal.{Refusal}
 use Rattle.page_text.specs.declared.fault.Fault.{Fault}
-use Rattle.page_text.specs.declared.fault.Page.{Page}
 use Rattle.page_text.specs.declared.fault.Place.{Place}
 use Rattle.page_text.specs.declared.line.PageKind.{PageKind}
-use Rattle.page_text.specs.Limits.{page_limit}
 use Rattle.page_text.specs.Faults.{told, fault_at}
 use Rattle.page_text.specs.Lines.{lines}
 use Rattle.pages.specs.declared.stages.Stage.{Stage}
 use Rattle.pages.specs.declared.stages.Stage.TheVariants.{Header, Size, Entries}
 use Rattle.pages.specs.declared.stages.Task.{Task}
 use Rattle.pages.specs.declared.stages.Task.TheVariants as for
-use Rattle.pages.specs.Stages.{chain, given, Reading, next_line, starting, taken_line, ending, Format, done, step, reads, read_page}
+use Rattle.pages.specs.Stages.{chain, given, Reading, taken_line, ending, Format, done, step, reads}
 
 pub given_given : {X Y Z E : Type 0} (f : X → Y) (g : Y → Z) (o : Result X E) → given g (given f o) ≡ given (λ x. g (f x)) o
 given_given f g (Ok x) = refl

@@ -1,8 +1,8 @@
 -- A page made of values that fit is read as exactly those values, with zeros after them.
-use Rattle.std.proofs.Common.{◌≡◌, ℕ, suc, ◌+◌, ◌-◌, ◌*◌, ◌<◌, ◌≤◌, Bool, true, false, cond, ◌&&◌, eqb, leb, List, [], ◌∷◌, ◌++◌, map, length, set, replicate, Some, Ok, Err, Result, sym, refl, ap, ◌∙◌, subst, append_assoc, append-nil, arith, length-append}
+use Rattle.std.proofs.Common.{◌≡◌, ℕ, suc, ◌+◌, ◌-◌, ◌*◌, ◌<◌, ◌≤◌, ◌&&◌, eqb, leb, List, [], ◌∷◌, ◌++◌, map, length, set, replicate, Some, Ok, Result, sym, refl, ap, ◌∙◌, subst, append_assoc, append-nil, arith}
 use native.Mathlib.Nat.{sub-zero}
 use lib.ListN.{length-replicate}
-use Rattle.std.specs.List.{AllByRecursion as All}
+use Rattle.std.specs.List.{AllByRecursion}
 use Rattle.std.proofs.lemmas.List.{length-map, length_push, set_at}
 use Rattle.std.proofs.lemmas.Bool.{cond-true, le-leb, eq-eqb, and_from}
 use Rattle.refusal.specs.Limits.{side}
@@ -33,7 +33,7 @@ module _ (columns : Columns) (room rows : ℕ) where
       ∙ ap (λ (n : ℕ). Ok (record { rows = rows; filled = n; values = set (padded room us) (length us) v })) (sym (length_push us v))
       ∙ ap (λ (vs : List ℕ). Ok (record { rows = rows; filled = length (us ++ v ∷ []); values = vs })) (put_next us v h)
 
-  leads : (us vs : List ℕ) → length us + length vs ≤ room → All (λ v. v ≤ 65535) vs → Leads (table_format columns room) 1 (reached us) (map (λ v. v ∷ []) vs) (reached (us ++ vs))
+  leads : (us vs : List ℕ) → length us + length vs ≤ room → AllByRecursion (λ v. v ≤ 65535) vs → Leads (table_format columns room) 1 (reached us) (map (λ v. v ∷ []) vs) (reached (us ++ vs))
   leads us [] h a = ap reached (sym (append-nil us))
   leads us (v ∷ vs) h a =
       (reached (us ++ v ∷ []), λ l e. put_value us v l (omega arith) a.0 e, rw (← append_assoc us (v ∷ []) vs) (leads (us ++ v ∷ []) vs (omega (arith, length_push us v)) a.1))

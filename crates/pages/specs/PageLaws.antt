@@ -1,6 +1,6 @@
 -- What the definitions of a page amount to, in the words of the format.
 use Rattle.std.specs.Prelude.{◌≡◌, ℕ, ◌+◌, ◌-◌, ◌*◌, ◌≤◌, Bool, true, false, ◌&&◌, ◌||◌, ◌⊎◌, List, [], ◌∷◌, ◌++◌, map, length, replicate, Some, Ok, Err, Result, ◌==◌}
-use Rattle.std.specs.List.{AllByRecursion as All}
+use Rattle.std.specs.List.{AllByRecursion}
 use Rattle.refusal.specs.Limits.{side}
 use Rattle.refusal.specs.Counting.{within}
 use Rattle.refusal.specs.declared.Refusal.{Refusal}
@@ -40,7 +40,7 @@ pub record MadeOf (kind : PageKind) (k : ℕ) (bytes : List ℕ) (sizes : List �
   pub rest : List (List ℕ)
   pub is : lines bytes ≡ top ∷ (notes ++ size ∷ rest)
   pub headed : Short top × (header kind top ≡ true)
-  pub noted : All Passed notes
+  pub noted : AllByRecursion Passed notes
   pub sized : Short size × (line_kind size ≡ Text) × (numbers (length sizes) (words size) ≡ Some sizes)
   pub said : Says k rest entries
 
@@ -59,7 +59,7 @@ pub record PairsFit (rows columns : ℕ) (ps : List (ℕ × ℕ)) : Type 0 where
   pub few_rows : rows ≤ side
   pub few_columns : columns ≤ side
   pub few : length ps ≤ rows * columns
-  pub inner : All (λ p. (within rows p.0 && within columns p.1) ≡ true) ps
+  pub inner : AllByRecursion (λ p. (within rows p.0 && within columns p.1) ≡ true) ps
   pub apart : Apart ps
 
 -- Exactly the pairs of a list.
@@ -76,7 +76,7 @@ pub record ValuesFit (rows columns room : ℕ) (vs : List ℕ) : Type 0 where
   pub few_rows : rows ≤ 2 * side
   pub all : length vs ≡ rows * columns
   pub fit : rows * columns ≤ room
-  pub small : All (λ v. v ≤ 65535) vs
+  pub small : AllByRecursion (λ v. v ≤ 65535) vs
 
 -- Values at the front of a table, and zeros after them.
 abbrev pub padded : ℕ → List ℕ → List ℕ

@@ -1,5 +1,5 @@
 -- Pages of pairs: sizes rows, columns and entries, then one `i j` a line. Rows are programmes, columns slots.
-use Rattle.std.specs.Prelude.{ℕ, ◌*◌, Bool, true, false, cond, ◌&&◌, List, Some, None, Ok, Err, Option, Result, nat_le, slice_index}
+use Rattle.std.specs.Prelude.{ℕ, ◌*◌, true, cond, ◌&&◌, List, Some, None, Ok, Err, Option, Result, nat_le, slice_index}
 use Rattle.refusal.specs.Limits.{side}
 use Rattle.refusal.specs.declared.Refusal.{Refusal}
 use Rattle.refusal.specs.declared.Refusal.TheVariants as no

@@ -3,6 +3,8 @@
 //! A plan is held in two tables, a slot for each programme and a programme for each slot, that agree;
 //! so no programme and no slot can stand in it twice. It is made with room for `SIDE` a side, so that
 //! no later call wants memory. `specs/Held.antt` says what a plan holds and what each edit makes of it.
+#![tactic(auto)]
+
 ghost use Rattle.std.specs.Prelude.{◌≡◌, ◌<◌, ◌≤◌, vec_len, vec_capacity};
 ghost use Rattle.refusal.specs.Limits.{side};
 ghost use Rattle.matching.specs.Lists.{Points};

@@ -1,5 +1,5 @@
 -- One root: a path that is applied, or names that are given.
-use Rattle.std.proofs.Common.{◌≡◌, ℕ, ◌<◌, ◌≤◌, Bool, true, false, ◌⊎◌, List, length, sym, refl, ap, ◌∙◌, subst, inl, inr, ⊎_elim, arith}
+use Rattle.std.proofs.Common.{◌≡◌, ℕ, ◌<◌, ◌≤◌, Bool, true, false, List, length, sym, subst, ⊎_elim, arith}
 use Rattle.search.specs.declared.queue.Reached.{Reached}
 use Rattle.refusal.specs.Tables.{at, put}
 use Rattle.search.specs.Scene.{scene, Agrees}
@@ -19,7 +19,7 @@ use Rattle.search.specs.Outcomes.{side_fits, scene_of, Took}
 use Rattle.search.proofs.Agreement.{plan_agrees}
 use Rattle.search.proofs.Parts.{fit_parts}
 use Rattle.planner.specs.Run.{setting_of}
-use Rattle.planner.proofs.Plans.{Lengths, plan_lengths}
+use Rattle.planner.proofs.Plans.{plan_lengths}
 
 module _ (G : Setting) (slot_of member_in names : List ℕ) (done : List Bool) (root : ℕ) (len : length G.members ≤ length done) (ag : Agrees slot_of member_in) (clear : Clear G member_in) (st : StateOf G slot_of member_in names done) (ch : ChosenOf G slot_of done root) where
   pub root_number : 0 < root

@@ -1,5 +1,5 @@
 -- Two passes, one on each side, and the board that their parts stand for.
-use Rattle.std.proofs.Common.{◌≡◌, ℕ, ◌<◌, ◌≤◌, Bool, true, false, not, ◌&&◌, List, ◌++◌, length, take, drop, sym, refl, ap, ◌∙◌, subst, ⊎_elim, arith}
+use Rattle.std.proofs.Common.{◌≡◌, ℕ, Bool, true, false, not, ◌&&◌, List, ◌++◌, length, drop, sym, refl, ap, ◌∙◌, subst, ⊎_elim, arith}
 use mathlib.Core.Path.{fun_ext}
 use lib.Seq.{take-append_seam, drop-append_seam}
 use Rattle.std.proofs.lemmas.Bool.{cases_Bool, and_parts, and_from, and_left, and_right, both_ways, not_from_false, eq-eqb, false≢true}
@@ -8,7 +8,7 @@ use Rattle.refusal.specs.Tables.{at, holds_at}
 use Rattle.refusal.proofs.Counts.{within_from, any_none, same_if}
 use Rattle.priority.specs.Order.{Ordered}
 use Rattle.source.specs.Pairs.{Pairs, inside, holds, turned}
-use Rattle.matching.specs.Board.{Board, size, attends, free, slot_free, may_run, Lawful, Best}
+use Rattle.matching.specs.Board.{Board, Lawful, Best}
 use Rattle.matching.specs.Certificate.{Certificate, Passes}
 use Rattle.matching.specs.Check.{passes}
 use Rattle.matching.specs.Lists.{plan_of, certificate_of}
@@ -18,9 +18,9 @@ use Rattle.plan.specs.Held.{Held, Sides, turned_sides}
 use Rattle.plan.specs.Parts.{board_of}
 use Rattle.search.specs.Scene.{Agrees}
 use Rattle.search.specs.Outcomes.{side_fits}
-use Rattle.search.proofs.Agreement.{at_in, at_pos, mark_pos, mark_in}
+use Rattle.search.proofs.Agreement.{mark_pos, mark_in}
 use Rattle.search.proofs.Parts.{fit_parts}
-use Rattle.planner.specs.Run.{Setting, setting, setting_of, Clear, Moves, Ran, AllStand, may_stand, names_of}
+use Rattle.planner.specs.Run.{setting, setting_of, Clear, Ran, AllStand, names_of}
 use Rattle.planner.proofs.Bridge.{Stands, shows_plan, clear_other, passes_of}
 use Rattle.planner.proofs.Dropping.{clear_member}
 use Rattle.planner.proofs.Plans.{Lengths}

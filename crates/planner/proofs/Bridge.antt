@@ -1,19 +1,18 @@
 -- From tables to boards: a settled side keeps the rules, and moves keep a plan lawful.
-use Rattle.std.proofs.Common.{◌≡◌, ℕ, ◌<◌, ◌≤◌, Bool, true, false, not, ◌&&◌, ◌||◌, eqb, leb, ◌≢◌, ◌⊎◌, List, length, sym, refl, ap, ◌∙◌, subst, inl, inr, ⊎_elim, arith}
+use Rattle.std.proofs.Common.{◌≡◌, ℕ, ◌<◌, Bool, true, false, not, ◌||◌, eqb, leb, List, length, sym, refl, ap, ◌∙◌, ⊎_elim, arith}
 use Rattle.std.proofs.lemmas.Bool.{cases_Bool, both_ways, and_parts, and_from, not-true, not_from_false, ne_eqb, or_left, or_right, or_cases, leb-true, le-leb, eqb-true, eq-eqb}
 use Rattle.refusal.specs.Counting.{any, within}
 use Rattle.refusal.specs.Tables.{at, holds_at}
-use Rattle.refusal.proofs.Counts.{within_bounds, within_from, any_some, any_here}
-use Rattle.priority.specs.Order.{Ordered}
-use Rattle.matching.specs.Board.{Board, Plan, size, turn, turned, attends, free, slot_free, may_run, placed, Lawful, Best}
-use Rattle.matching.specs.Certificate.{Certificate, at_least, blocks, Naming, Rules, Passes}
+use Rattle.refusal.proofs.Counts.{within_from, any_some, any_here}
+use Rattle.matching.specs.Board.{Board, Plan, size, turn, turned, attends, free, slot_free, may_run, placed, Lawful}
+use Rattle.matching.specs.Certificate.{at_least, blocks, Naming, Rules, Passes}
 use Rattle.matching.specs.Lists.{plan_of}
-use Rattle.matching.proofs.Soundness.{may_run_parts, lawful_turned, passing_is_best}
+use Rattle.matching.proofs.Soundness.{may_run_parts, lawful_turned}
 use Rattle.search.specs.Scene.{Agrees}
 use Rattle.search.specs.Search.{Lawful as Within-pairs}
-use Rattle.search.proofs.Agreement.{at_in, at_pos, mark_pos, mark_in}
-use Rattle.planner.specs.Pass.{Kept, Settled}
-use Rattle.planner.specs.Run.{Setting, setting, stage_of, Clear, Moves, Ran, names_of}
+use Rattle.search.proofs.Agreement.{at_in, at_pos, mark_pos}
+use Rattle.planner.specs.Pass.{Settled}
+use Rattle.planner.specs.Run.{Setting, setting, stage_of, Moves, Ran, names_of}
 use Rattle.planner.proofs.Passing.{cases_zero}
 
 -- the tables of priorities, and of who may be moved, say what the board says

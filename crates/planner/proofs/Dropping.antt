@@ -1,16 +1,11 @@
 -- Dropping the pairs that may not stand, one member after another; what is left is lawful.
-use Rattle.std.proofs.Common.{◌≡◌, ℕ, ◌+◌, ◌<◌, ◌≤◌, Bool, true, false, cond, not, ◌&&◌, ◌⊎◌, List, length, sym, refl, ap, ◌∙◌, subst, ⊎_elim, arith}
-use Rattle.std.proofs.lemmas.Bool.{cases_eq, cases_Bool, cases_lt, and_parts, and_from, and_left, and_right, both_ways, cond-true, cond-false, not_from_false}
-use Rattle.refusal.specs.Counting.{any, within}
+use Rattle.std.proofs.Common.{◌≡◌, ℕ, ◌+◌, ◌<◌, ◌≤◌, Bool, true, false, List, length, sym, refl, ap, ◌∙◌, subst, ⊎_elim, arith}
+use Rattle.std.proofs.lemmas.Bool.{cases_eq, cases_Bool, cases_lt, and_parts, cond-true, cond-false}
 use Rattle.refusal.specs.Tables.{at}
-use Rattle.refusal.proofs.Counts.{within_from, any_none}
-use Rattle.matching.specs.Board.{Board, size, attends, free, slot_free, may_run, Lawful}
-use Rattle.matching.specs.Lists.{plan_of}
 use Rattle.search.specs.Scene.{Agrees}
 use Rattle.plan.specs.Held.{Held, vacated}
-use Rattle.search.proofs.Agreement.{Freed, vacate_frees, at_in, at_pos, mark_pos, mark_in}
+use Rattle.search.proofs.Agreement.{Freed, vacate_frees, at_in, at_pos}
 use Rattle.planner.specs.Run.{may_stand, AllStand, still_slot}
-use Rattle.planner.proofs.Bridge.{Stands, shows_plan}
 
 -- the members up to i have their slots if they may stand there, the others as before
 pub record Dropping (allowed : ℕ → ℕ → Bool) (members slots : List Bool) (slot_of slot_of' member_in' : List ℕ) (i : ℕ) : Type 0 where

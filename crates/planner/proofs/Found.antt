@@ -1,12 +1,11 @@
 -- What a search gave, as a step of a pass.
-use Rattle.std.proofs.Common.{◌≡◌, ℕ, zero, suc, ◌+◌, ◌<◌, ◌≤◌, Bool, true, false, cond, not, ◌||◌, ◌⊎◌, List, sym, refl, ap, ◌∙◌, subst, inl, inr, ⊎_elim, arith}
-use Rattle.std.proofs.lemmas.Bool.{cases_Bool, cases_eq, cases_lt, both_ways, or_left, or_right, or_cases, cond-true, cond-false, not_from_false, not-true, false≢true}
+use Rattle.std.proofs.Common.{◌≡◌, ℕ, zero, suc, ◌<◌, ◌≤◌, Bool, true, false, cond, not, ◌||◌, List, sym, refl, ap, ◌∙◌, ⊎_elim, arith}
+use Rattle.std.proofs.lemmas.Bool.{cases_Bool, cases_eq, both_ways, or_left, or_right, or_cases, cond-true, cond-false, not_from_false, not-true}
 use Rattle.search.specs.declared.queue.Reached.{Reached}
 use Rattle.refusal.specs.Tables.{at}
 use Rattle.search.specs.Scene.{Scene, scene, Agrees}
-use Rattle.search.specs.Search.{who, via, parent_of, Chain, Stuck, Path, Steps, Lawful, Kept}
+use Rattle.search.specs.Search.{who, via, parent_of, Stuck, Path, Lawful, Kept}
 use Rattle.search.proofs.Agreement.{at_pos, mark_pos}
-use Rattle.planner.specs.Pass.{Stage, turn_stage, Chosen, Settled}
 use Rattle.planner.specs.Run.{Setting, stage_of, Clear, Moves}
 use Rattle.planner.proofs.Passing.{Ranked, Paired, Dry, Flipped, cases_zero, survives}
 

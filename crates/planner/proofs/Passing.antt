@@ -1,6 +1,6 @@
 -- The steps of a pass keep its state, and its end is settled.
 use Rattle.std.proofs.Common.{◌≡◌, ℕ, ◌<◌, Bool, true, false, ◌⊎◌, sym, refl, ap, ◌∙◌, subst, inl, inr, ⊎_elim, arith}
-use Rattle.std.proofs.lemmas.Bool.{cases_Bool, cases_eq, cases_lt, both_ways}
+use Rattle.std.proofs.lemmas.Bool.{cases_Bool, cases_eq, both_ways}
 use Rattle.planner.specs.Pass.{Stage, turn_stage, Kept, State, Chosen, Renamed, Settled}
 
 -- who is free is ranked, and numbers start at 1

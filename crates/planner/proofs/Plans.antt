@@ -1,5 +1,5 @@
 -- What the parts of a pass have in common: the tables of a plan, and their lengths.
-use Rattle.std.proofs.Common.{◌≡◌, ℕ, zero, suc, ◌≤◌, Bool, true, ◌&&◌, eqb, leb, List, length, get_or, replicate, sym, refl, ap, ◌∙◌, arith}
+use Rattle.std.proofs.Common.{◌≡◌, ℕ, zero, suc, ◌≤◌, Bool, true, eqb, leb, List, length, get_or, replicate, sym, refl, ap, ◌∙◌, arith}
 use Rattle.refusal.specs.Tables.{at}
 use Rattle.std.proofs.lemmas.Bool.{and_parts, and_from, eq-eqb, eqb-true}
 use Rattle.refusal.specs.Limits.{side}

@@ -1,19 +1,19 @@
 -- What the loops of a pass keep true.
-use Rattle.std.proofs.Common.{◌≡◌, ℕ, zero, suc, ◌+◌, ◌<◌, ◌≤◌, Bool, true, false, cond, not, ◌&&◌, eqb, ◌⊎◌, List, length, get_or, Some, None, Option, sym, refl, ap, ◌∙◌, subst, inl, inr, ⊎_elim, arith}
+use Rattle.std.proofs.Common.{◌≡◌, ℕ, zero, suc, ◌+◌, ◌<◌, ◌≤◌, Bool, true, false, cond, not, ◌&&◌, eqb, List, length, get_or, Some, None, sym, refl, ap, ◌∙◌, ⊎_elim, arith}
 use Rattle.std.proofs.lemmas.Bool.{cases_Bool, cases_eq, cases_lt, both_ways, and_parts, and_from, and_left, and_right, eqb-true, eq-eqb, ne_eqb, not-true, not_from_false, cond-true, cond-false}
 use Rattle.std.proofs.lemmas.List.{get_or_past}
-use Rattle.refusal.specs.Counting.{within}
+use Rattle.refusal.specs.Counting.{count}
 use Rattle.refusal.specs.Tables.{at, put, holds_at}
-use Rattle.refusal.proofs.Counts.{within_bounds, within_from}
+use Rattle.refusal.proofs.Counts.{within_from, none_if, without, without_same, without_other, count_same, count-without}
 use Rattle.refusal.proofs.Entries.{at-put_same, at-put_other}
 use Rattle.priority.specs.Order.{Ordered}
 use Rattle.priority.proofs.Compare.{place_other, place_transitive}
 use Rattle.search.specs.Search.{unmarked}
 use Rattle.search.proofs.Agreement.{mark_pos, mark_in}
 use Rattle.search.proofs.Looking.{unmarked-put}
-use Rattle.planner.specs.Pass.{Stage, Chosen, Renamed}
+use Rattle.planner.specs.Pass.{Chosen, Renamed}
 use Rattle.planner.specs.Run.{Setting, setting, stage_of, StateOf, ChosenOf, Clear, Moves, Advanced, waiting, Choice}
-use Rattle.planner.proofs.Passing.{Ranked, Done, cases_zero}
+use Rattle.planner.proofs.Passing.{Ranked, Done}
 use Rattle.planner.proofs.Found.{more_moves, clear_moves}
 
 -- the order of a pass, from the laws of a kind of priority
@@ -91,3 +91,24 @@ pub fewer : (G : Setting) (slot_of member_in slot_of' member_in' names' : List �
 fewer G slot_of member_in slot_of' member_in' names' done done' root len ch a =
     let within = mark_in G.members root ch.free in
     omega (arith, ap unmarked a.marked, unmarked-put done root (mark_pos G.members root ch.free) (omega arith) ch.new)
+
+-- ---- how many were searched from
+pub none_counted : (f : ℕ → Bool) (n : ℕ) → ((k : ℕ) → f k ≡ false) → count f n ≡ 0
+none_counted f zero h = refl
+none_counted f (suc n) h = omega (arith, none_counted f n h, none_if (f (suc n)) (h (suc n)))
+
+-- one more is done, and so counted
+pub one_counted : (done done' : List Bool) (root n : ℕ) → 0 < root → root ≤ n → root ≤ length done → at false done root ≡ false → done' ≡ put done root true → count (at false done') n ≡ count (at false done) n + 1
+one_counted done done' root n r0 rn rl new e =
+    let put-done = at false (put done root true) in
+    let step = count-without put-done n root (within_from n root r0 rn) (at-put_same false done root true r0 rl) in
+    let others = count_same (without put-done root) (at false done) n (λ k w. ⊎_elim
+    (λ same. without_same put-done root k same ∙ sym (ap (at false done) same ∙ new))
+    (λ other. without_other put-done root k other ∙ at-put_other false done root true k other)
+    (cases_eq k root)) in
+    omega (arith, ap (λ (d : List Bool). count (at false d) n) e)
+
+pub root_counted : (G : Setting) (slot_of member_in slot_of' member_in' names' : List ℕ) (done done' : List Bool) (root n : ℕ) → length G.members ≤ length done → length G.members ≡ n → ChosenOf G slot_of done root → Advanced G slot_of member_in done root slot_of' member_in' names' done' → count (at false done') n ≡ count (at false done) n + 1
+root_counted G slot_of member_in slot_of' member_in' names' done done' root n few len ch a =
+    let within = mark_in G.members root ch.free in
+    one_counted done done' root n (mark_pos G.members root ch.free) (omega arith) (omega arith) ch.new a.marked

@@ -5,6 +5,8 @@
 //! present and without a place, highest first, and searches a path from each. A path that is found is
 //! flipped; where there is none, everyone whom the search reached and who names nobody yet names the
 //! root. What `settle` leaves passes the rules of a certificate, and so is best.
+#![tactic(auto)]
+
 pub mod certificate;
 mod choose;
 mod pass;

@@ -1,6 +1,7 @@
 //! One side's pass.
 ghost use Rattle.std.specs.Prelude.{◌≡◌, ℕ, ◌<◌, ◌≤◌, Bool, true, false, length};
 ghost use Rattle.refusal.specs.Limits.{side};
+ghost use Rattle.refusal.specs.Counting.{count};
 ghost use Rattle.refusal.specs.Tables.{at};
 ghost use Rattle.plan.specs.Held.{held};
 ghost use Rattle.search.specs.Outcomes.{side_fits, scene_of, Told};
@@ -76,6 +77,7 @@ fn advance<S: PairSource, P: Priority>(
 }
 
 /// Takes those who are present and without a slot, highest first, until each has one or names itself.
+/// Tells how many it searched from: those done, each once.
 pub(crate) fn run_pass<S: PairSource, P: Priority>(
     source: &S,
     ranking: &[P],
@@ -84,16 +86,21 @@ pub(crate) fn run_pass<S: PairSource, P: Priority>(
     done: &mut [bool],
     waiting: &mut [u8],
     space: &mut Space,
-)
+) -> usize
     requires fit { side_fits (S.PairSource.pairs source.now) ranking.now (held plan.old) ≡ true }
     requires lens { (length names.old ≡ length ranking.now) × (length done.old ≡ side) × (length waiting.old ≡ side) }
     requires unnamed { (k : ℕ) → at 0 names.old k ≡ 0 }
     requires clear { Clear (setting_of P.Priority.reaches (S.PairSource.pairs source.now) ranking.now (held plan.old).attendance) (held plan.old).programme_in }
     ensures after { Ran (setting_of P.Priority.reaches (S.PairSource.pairs source.now) ranking.now (held plan.old).attendance) (held plan.old).slot_of (held plan.old).programme_in (held plan.new).slot_of (held plan.new).programme_in names.new }
     ensures attendance { (held plan.new).attendance ≡ (held plan.old).attendance }
+    ensures searches { result ≡ count (at false done.new) (length ranking.now) }
+    ensures most { result ≤ length ranking.now }
 {
     done.fill(false);
+    let mut searches = 0;
     while let Some(root) = choose(ranking, plan, done, waiting) {
         advance(source, ranking, plan, names, done, space, root);
+        searches += 1;
     }
+    searches
 }

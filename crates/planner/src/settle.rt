@@ -1,5 +1,5 @@
 //! From any plan to a best one: unlawful pairs are dropped, then both sides make their pass.
-ghost use Rattle.std.specs.Prelude.{◌≡◌, ℕ, ◌<◌, ◌≤◌, Bool, true, false, length, vec_len, OnErr, OnOk};
+ghost use Rattle.std.specs.Prelude.{◌≡◌, ℕ, ◌+◌, ◌<◌, ◌≤◌, Bool, true, false, length, vec_len, OnErr, OnOk};
 ghost use Rattle.refusal.specs.Limits.{side};
 ghost use Rattle.refusal.specs.Refusals.{refusal_of, first_refusal};
 ghost use Rattle.refusal.specs.Tables.{at};
@@ -50,7 +50,8 @@ fn drop_unlawful<S: PairSource>(source: &S, plan: &mut Plan)
     }
 }
 
-/// Both passes: the programmes' first, then the slots' on the turned plan and source.
+/// Both passes: the programmes' first, then the slots' on the turned plan and source. Tells how many
+/// searches they made.
 fn pass_both<S: PairSource, P: Priority>(
     source: &S,
     programmes: &[P],
@@ -61,7 +62,7 @@ fn pass_both<S: PairSource, P: Priority>(
     done: &mut [bool],
     waiting: &mut [u8],
     space: &mut Space,
-)
+) -> usize
     requires fit { side_fits (S.PairSource.pairs source.now) programmes.now (held plan.old) ≡ true }
     requires slots_fit { length (held plan.old).programme_in ≡ length slots.now }
     requires lens { (length programme_names.old ≡ length programmes.now) × (length slot_names.old ≡ length slots.now) × (length done.old ≡ side) × (length waiting.old ≡ side) }
@@ -69,8 +70,9 @@ fn pass_both<S: PairSource, P: Priority>(
     requires stand { AllStand (holds (S.PairSource.pairs source.now)) (held plan.old).attendance.programmes (held plan.old).attendance.slots (held plan.old).slot_of }
     ensures passes { Passes (board_of P.Priority.reaches (S.PairSource.pairs source.now) programmes.now slots.now (held plan.old).attendance) (plan_of (held plan.new).slot_of) (names_of programme_names.new slot_names.new) }
     ensures attendance { (held plan.new).attendance ≡ (held plan.old).attendance }
+    ensures searches { result ≤ length programmes.now + length slots.now }
 {
-    run_pass(
+    let from_programmes = run_pass(
         source,
         programmes,
         plan,
@@ -80,7 +82,7 @@ fn pass_both<S: PairSource, P: Priority>(
         space,
     );
     plan.turn();
-    run_pass(
+    let from_slots = run_pass(
         &Mirror(source),
         slots,
         plan,
@@ -90,6 +92,7 @@ fn pass_both<S: PairSource, P: Priority>(
         space,
     );
     plan.turn();
+    from_programmes + from_slots
 }
 
 /// Drops what is not lawful, then makes both passes, with the names written into the certificate.
@@ -106,11 +109,12 @@ fn renew<S: PairSource, P: Priority + Copy>(
     ensures best { Best (board_of P.Priority.reaches (S.PairSource.pairs source.now) (ranked programmes.now) (ranked slots.now) (held plan.old).attendance) (plan_of (held plan.new).slot_of) }
     ensures attendance { (held plan.new).attendance ≡ (held plan.old).attendance }
     ensures counts { (length certificate.new.programmes.items ≡ length (ranked programmes.now)) × (length certificate.new.slots.items ≡ length (ranked slots.now)) }
+    ensures searches { workspace.new.searches ≤ length (ranked programmes.now) + length (ranked slots.now) }
 {
     drop_unlawful(source, plan);
     zeros(&mut certificate.programmes, plan.programmes());
     zeros(&mut certificate.slots, plan.slots());
-    pass_both(
+    workspace.searches = pass_both(
         source,
         programmes.as_slice(),
         slots.as_slice(),
@@ -125,7 +129,8 @@ fn renew<S: PairSource, P: Priority + Copy>(
 
 /// Makes the plan a best one for the parts handed in, and writes a certificate that passes with it.
 /// It starts from what is lawful of the plan, and leaves the attendance as it is. Refuses 12 where the
-/// parts do not fit together, and then changes nothing.
+/// parts do not fit together, and then changes nothing. It searches at most once from each programme and
+/// once from each slot; the workspace tells how often.
 pub fn settle<S: PairSource, P: Priority + Copy>(
     source: &S,
     programmes: &Ranking<P>,
@@ -135,11 +140,12 @@ pub fn settle<S: PairSource, P: Priority + Copy>(
     workspace: &mut Workspace,
 ) -> Result<(), Refusal>
     ensures answer { refusal_of result ≡ first_refusal (whole_refusals (fit-together (S.PairSource.pairs source.now) (ranked programmes.now) (ranked slots.now) (held plan.old))) }
-    ensures kept { OnErr result ((plan.new ≡ plan.old) × (certificate.new ≡ certificate.old)) }
+    ensures kept { OnErr result ((plan.new ≡ plan.old) × (certificate.new ≡ certificate.old) × (workspace.new ≡ workspace.old)) }
     ensures passes { OnOk result (passing (board_of P.Priority.reaches (S.PairSource.pairs source.now) (ranked programmes.now) (ranked slots.now) (held plan.old).attendance) (plan_of (held plan.new).slot_of) (certificate_of (length (ranked programmes.now)) (entries certificate.new)) ≡ true) }
     ensures best { OnOk result (Best (board_of P.Priority.reaches (S.PairSource.pairs source.now) (ranked programmes.now) (ranked slots.now) (held plan.old).attendance) (plan_of (held plan.new).slot_of)) }
     ensures attendance { (held plan.new).attendance ≡ (held plan.old).attendance }
     ensures counts { OnOk result ((length certificate.new.programmes.items ≡ length (ranked programmes.now)) × (length certificate.new.slots.items ≡ length (ranked slots.now))) }
+    ensures searches { OnOk result (workspace.new.searches ≤ length (ranked programmes.now) + length (ranked slots.now)) }
 {
     if !plan.fits(source, programmes, slots) {
         return Err(Refusal::Mismatch);

@@ -1,4 +1,6 @@
 //! Priorities: what it takes to be one, the station's two kinds, and rankings of any kind.
+#![tactic(auto)]
+
 ghost use Rattle.std.specs.Prelude.{◌≡◌, Bool, true, ◌||◌};
 
 pub mod house;

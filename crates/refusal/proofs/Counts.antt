@@ -1,8 +1,8 @@
 -- Lemmas on `within`, `any`, `all` and `count`, and on loops from 1 on.
-use Rattle.std.proofs.Common.{◌≡◌, ℕ, zero, suc, ◌+◌, ◌<◌, ◌≤◌, Bool, true, false, cond, not, ◌&&◌, ◌||◌, eqb, leb, ◌≢◌, ◌⊎◌, sym, refl, ap, ◌∙◌, inl, inr, ⊎_elim, add-one, arith}
-use Rattle.std.proofs.lemmas.Bool.{cases_Bool, cases_eq, cases_lt, or_cases, or_left, or_right, or_parts, and_parts, and_from, leb-true, le-leb, eqb-true, eq-eqb, ne_eqb, not_from_false, not-true, both_ways}
+use Rattle.std.proofs.Common.{◌≡◌, ℕ, zero, suc, ◌+◌, ◌<◌, ◌≤◌, Bool, true, false, cond, not, ◌&&◌, eqb, leb, ◌⊎◌, sym, refl, ap, ◌∙◌, inl, inr, ⊎_elim, add-one, arith}
+use Rattle.std.proofs.lemmas.Bool.{cases_Bool, cases_eq, cases_lt, or_cases, or_left, or_right, and_parts, and_from, leb-true, le-leb, both_ways}
 use Rattle.std.proofs.lemmas.Bool.Decides.{nat_tests}
-use Rattle.refusal.specs.Counting.{count, any, all, within, ◌implies◌}
+use Rattle.refusal.specs.Counting.{count, any, all, within}
 
 pub within_bounds : (n k : ℕ) → within n k ≡ true → (1 ≤ k) × (k ≤ n)
 within_bounds n k h = let (a, b) = and_parts (leb 1 k) (leb k n) h in (leb-true 1 k a, leb-true k n b)

@@ -1,5 +1,7 @@
 //! What every crate of the planner shares: the numbers of programmes and slots, tables that are
 //! read by such a number, and the refusals with which a call declines.
+#![tactic(auto)]
+
 ghost use Rattle.std.specs.Prelude.{◌≡◌};
 ghost use Rattle.refusal.specs.Refusals.{number_of};
 

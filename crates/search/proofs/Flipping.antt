@@ -1,13 +1,13 @@
 -- The walk back along a path, and what the flip leaves.
-use Rattle.std.proofs.Common.{◌≡◌, ℕ, zero, suc, ◌+◌, ◌-◌, ◌<◌, ◌≤◌, Bool, true, false, cond, not, ◌&&◌, eqb, ◌≢◌, ◌⊎◌, List, [], ◌∷◌, length, get_or, set, sym, refl, ap, ◌∙◌, subst, inl, inr, ⊎_elim, arith}
-use Rattle.std.proofs.lemmas.Bool.{cases_eq, cases_lt, both_ways, and_from, not_from_false, eq-eqb, ne_eqb, cond-true, cond-false}
+use Rattle.std.proofs.Common.{◌≡◌, ℕ, zero, suc, ◌+◌, ◌<◌, ◌≤◌, Bool, true, cond, not, eqb, List, ◌∷◌, length, sym, refl, ap, ◌∙◌, ⊎_elim, arith}
+use Rattle.std.proofs.lemmas.Bool.{cases_eq, cases_lt, and_from, not_from_false, eq-eqb, ne_eqb, cond-true, cond-false}
 use Rattle.search.specs.declared.queue.Reached.{Reached}
-use Rattle.refusal.specs.Tables.{at, put}
+use Rattle.refusal.specs.Tables.{at}
 use Rattle.search.specs.Scene.{Agrees}
 use Rattle.search.specs.Search.{who, via, parent_of, Shape, Steps, Lawful, Kept}
 use Rattle.search.specs.Paths.{one, apart, pairs, back, trail}
-use Rattle.search.specs.Changes.{gap, changes, given_slot, flipped, Applied}
-use Rattle.search.proofs.Counting.{gap_same, gap_other, one_of, one_none, changes_none, changes_same, changes_one, given_none}
+use Rattle.search.specs.Changes.{changes, given_slot, flipped, Applied}
+use Rattle.search.proofs.Counting.{gap_same, gap_other, one_of, one_none, changes_none, changes_one, given_none}
 use Rattle.search.proofs.Agreement.{Moved, Freed, at_in, at_pos}
 
 -- what the walk back keeps true: all places of the queue up to k are as they were, and the slot s is empty for the member at k

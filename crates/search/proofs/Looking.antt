@@ -1,12 +1,12 @@
 -- One walk over a member's slots, step by step.
-use Rattle.std.proofs.Common.{◌≡◌, ℕ, zero, suc, ◌+◌, ◌-◌, ◌<◌, ◌≤◌, Bool, true, false, ◌≢◌, ◌⊎◌, List, [], ◌∷◌, length, get_or, set, Some, None, Option, sym, refl, ap, ◌∙◌, subst, inl, inr, ⊎_elim, arith, length-set, get_or-set_other, get_or-set_same, below_more}
+use Rattle.std.proofs.Common.{◌≡◌, ℕ, zero, suc, ◌+◌, ◌<◌, ◌≤◌, Bool, true, false, List, [], ◌∷◌, length, get_or, set, Some, None, Option, sym, refl, ap, ◌∙◌, subst, inl, inr, ⊎_elim, arith, length-set, get_or-set_other, get_or-set_same, below_more}
 use Rattle.std.proofs.lemmas.Bool.{cases_eq, cases_lt, both_ways}
 use Rattle.search.specs.declared.queue.Reached.{Reached}
 use Rattle.refusal.specs.Tables.{at, put}
 use Rattle.refusal.proofs.Entries.{length-put, at-put_same, at-put_other}
 use Rattle.search.specs.Scene.{Scene}
 use Rattle.search.proofs.Asking.{First}
-use Rattle.search.specs.Search.{nobody, who, via, parent_of, depth_of, Usable, Chain, Levels, unmarked, Marks, Grown, Shut, Listed, Led, LedBelow, AllLed, Exit, Fresh, Path, Under, SomeSlot, Unders, Goes, Stops}
+use Rattle.search.specs.Search.{nobody, who, via, parent_of, depth_of, Usable, Chain, Levels, unmarked, Marks, Grown, Shut, Listed, Led, LedBelow, Exit, Fresh, SomeSlot, Unders, Goes, Stops}
 
 -- what one walk keeps true
 pub record Looking (S : Scene) (q₀ : List Reached) (n₀ : ℕ) (m₀ : List Bool) (i : ℕ) (q : List Reached) (n : ℕ) (m : List Bool) (lower : Option ℕ) (next : ℕ) : Type 0 where

@@ -1,5 +1,5 @@
 -- What `improve` needs of its parts.
-use Rattle.std.proofs.Common.{◌≡◌, ℕ, ◌<◌, ◌≤◌, Bool, true, ◌&&◌, eqb, List, length, sym, refl, ap, ◌∙◌, ⊎_elim, arith}
+use Rattle.std.proofs.Common.{◌≡◌, ℕ, ◌<◌, ◌≤◌, Bool, true, eqb, List, length, sym, refl, ap, ◌∙◌, ⊎_elim, arith}
 use Rattle.std.proofs.lemmas.Bool.{cases_lt, both_ways, and_parts, eqb-true}
 use Rattle.source.specs.Pairs.{Pairs}
 use Rattle.refusal.specs.Tables.{at}
@@ -7,7 +7,7 @@ use Rattle.plan.specs.declared.Plan.{Plan}
 use Rattle.plan.specs.Held.{Held, held}
 use Rattle.search.specs.Scene.{Scene, scene, Agrees}
 use Rattle.search.specs.declared.queue.Reached.{Reached}
-use Rattle.search.specs.Search.{who, via, parent_of, Path, Shape}
+use Rattle.search.specs.Search.{who, Path, Shape}
 use Rattle.search.specs.Outcomes.{side_fits, scene_of}
 use Rattle.search.proofs.Asking.{holds_within}
 use Rattle.search.proofs.Agreement.{plan_agrees, at_in, at_pos}

@@ -1,14 +1,14 @@
 -- The whole search, place after place of the queue.
-use Rattle.std.proofs.Common.{◌≡◌, ℕ, zero, suc, ◌+◌, ◌-◌, ◌<◌, ◌≤◌, Bool, true, false, ◌&&◌, ltb, ◌≢◌, ◌⊎◌, List, [], ◌∷◌, length, get_or, set, Some, None, Option, sym, refl, ap, ◌∙◌, subst, inl, inr, ⊎_elim, arith, length-set, get_or-set_other, get_or-set_same, below_more}
+use Rattle.std.proofs.Common.{◌≡◌, ℕ, suc, ◌+◌, ◌<◌, ◌≤◌, Bool, true, false, List, [], ◌∷◌, length, get_or, set, Some, None, Option, sym, refl, ap, ◌∙◌, subst, inl, inr, ⊎_elim, arith, length-set, get_or-set_same, below_more}
 use Rattle.std.proofs.lemmas.Bool.{cases_eq, cases_lt, both_ways, and_parts, ltb-true, ltb-false}
 use Rattle.search.specs.declared.queue.Reached.{Reached}
 use Rattle.refusal.specs.Limits.{side}
 use Rattle.refusal.specs.Tables.{at, put}
 use Rattle.refusal.proofs.Entries.{length-put, at-put_same, at-put_other}
-use Rattle.search.specs.Scene.{Scene, usable, holder}
+use Rattle.search.specs.Scene.{Scene, holder}
 use Rattle.search.specs.declared.queue.End.{End}
-use Rattle.search.specs.Search.{nobody, who, via, parent_of, depth_of, Usable, Chain, Levels, unmarked, Marks, Grown, Shut, Closed, Listed, Led, AllLed, Exit, Path, Under, SomeSlot, Unders, Goes, Stops, Before, Met, past, pick, Stuck}
-use Rattle.search.specs.Paths.{Safe, Found, Dry, Ended}
+use Rattle.search.specs.Search.{nobody, who, via, depth_of, Chain, unmarked, Marks, Grown, Listed, AllLed, Path, Under, SomeSlot, Unders, Goes, Stops, Before, Met, past, pick, Stuck}
+use Rattle.search.specs.Paths.{Found, Ended}
 use Rattle.search.proofs.Shortest.{Explored, one_full, one_empty, trail_pairs, shortest_empty, shortest_lower, no_path}
 use Rattle.search.proofs.Looking.{unmarked-put, chain_front}
 

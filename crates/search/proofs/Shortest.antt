@@ -1,10 +1,10 @@
 -- Why the path found is a shortest one, and why none is found only where there is none.
-use Rattle.std.proofs.Common.{◌≡◌, ℕ, zero, suc, ◌+◌, ◌-◌, ◌*◌, ◌<◌, ◌≤◌, Bool, true, false, cond, not, ◌&&◌, ◌||◌, eqb, ltb, ◌≢◌, ◌⊎◌, List, [], ◌∷◌, length, sym, refl, ap, ◌∙◌, subst, inl, inr, ⊎_elim, arith}
-use Rattle.std.proofs.lemmas.Bool.{cases_eq, cases_lt, cases_Bool, both_ways, and_parts, and_from, or_cases, or_left, or_right, not-true, not_from_false, ltb-true, ltb-false, lt-ltb, le-ltb, eqb-true, eq-eqb, ne_eqb, cond-true, cond-false}
+use Rattle.std.proofs.Common.{◌≡◌, ℕ, zero, suc, ◌+◌, ◌<◌, ◌≤◌, true, false, not, ◌&&◌, eqb, ltb, ◌⊎◌, List, [], ◌∷◌, length, sym, refl, ap, ◌∙◌, inl, inr, ⊎_elim, arith}
+use Rattle.std.proofs.lemmas.Bool.{cases_lt, cases_Bool, both_ways, and_parts, and_from, or_cases, or_left, or_right, not-true, not_from_false, ltb-true, lt-ltb, eqb-true, eq-eqb, ne_eqb}
 use Rattle.search.specs.declared.queue.Reached.{Reached}
 use Rattle.refusal.specs.Tables.{at}
 use Rattle.search.specs.Scene.{Scene, usable, holder}
-use Rattle.search.specs.Search.{who, via, parent_of, depth_of, Usable, Chain, Listed, Exit, Path}
+use Rattle.search.specs.Search.{who, parent_of, depth_of, Chain, Listed, Path}
 use Rattle.search.specs.Paths.{apart, leads, ends, improving, one, pairs, Shortest, NoPath, Safe, back, trail}
 
 -- every place above the depth L was looked from: each of its slots leads to one in the queue no more than one deeper, or to one with a name

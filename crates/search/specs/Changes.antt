@@ -1,5 +1,5 @@
 -- How much a plan changed, and what the flip of a path changes.
-use Rattle.std.specs.Prelude.{◌≡◌, ℕ, zero, suc, ◌+◌, ◌<◌, ◌≤◌, Bool, true, false, cond, List, [], ◌∷◌, length, ◌==◌}
+use Rattle.std.specs.Prelude.{◌≡◌, ℕ, zero, suc, ◌+◌, cond, List, [], ◌∷◌, length, ◌==◌}
 use Rattle.refusal.specs.Tables.{at}
 use Rattle.search.specs.declared.queue.Reached.{Reached}
 use Rattle.search.specs.Search.{Kept}

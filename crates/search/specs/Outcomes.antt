@@ -1,6 +1,5 @@
 -- What one search from a root does to a plan.
-use Rattle.std.specs.Prelude.{◌≡◌, ℕ, Bool, true, false, not, ◌&&◌, List, [], ◌∷◌, length, ◌==◌}
-use Rattle.refusal.specs.Counting.{within}
+use Rattle.std.specs.Prelude.{◌≡◌, ℕ, Bool, false, not, ◌&&◌, List, [], ◌∷◌, length, ◌==◌}
 use Rattle.refusal.specs.Tables.{at, holds_at}
 use Rattle.source.specs.Pairs.{Pairs, holds}
 use Rattle.plan.specs.Held.{Held}

@@ -1,5 +1,5 @@
 -- Improving paths: what one is, how many pairs it has, and when it is a shortest one.
-use Rattle.std.specs.Prelude.{◌≡◌, ℕ, zero, suc, ◌+◌, ◌-◌, ◌*◌, ◌<◌, ◌≤◌, Bool, true, false, cond, not, ◌&&◌, ◌||◌, List, [], ◌∷◌, length, Some, None, Option, ◌==◌, nat_lt}
+use Rattle.std.specs.Prelude.{◌≡◌, ℕ, zero, suc, ◌+◌, ◌<◌, ◌≤◌, Bool, true, false, not, ◌&&◌, ◌||◌, List, [], ◌∷◌, Some, None, Option, ◌==◌, nat_lt}
 use Rattle.refusal.specs.Limits.{side}
 use Rattle.refusal.specs.Tables.{at}
 use Rattle.search.specs.Scene.{Scene, usable, holder}

@@ -1,6 +1,6 @@
 -- What a search reads: who may take which slot, whom it may move, and the plan as it stands. The searching
 -- side's members are called members here, the other side's slots: on the turned source they are slots and programmes.
-use Rattle.std.specs.Prelude.{◌≡◌, ℕ, ◌<◌, Bool, true, false, ◌&&◌, List}
+use Rattle.std.specs.Prelude.{◌≡◌, ℕ, ◌<◌, Bool, false, ◌&&◌, List}
 use Rattle.refusal.specs.Tables.{at}
 
 pub record Scene : Type 0 where

@@ -1,13 +1,13 @@
 -- What the search and the flip keep true, step by step: the queue of those reached, the marks, and the tables.
 -- In the words of the code; what they come to is said in `Paths` and `Outcomes`.
-use Rattle.std.specs.Prelude.{◌≡◌, ℕ, zero, suc, ◌+◌, ◌-◌, ◌<◌, ◌≤◌, Bool, true, false, ◌⊎◌, List, [], ◌∷◌, length, Some, None, Option, ◌≢◌, nat_lt, slice_index_or}
+use Rattle.std.specs.Prelude.{◌≡◌, ℕ, suc, ◌+◌, ◌<◌, ◌≤◌, Bool, true, false, ◌⊎◌, List, [], ◌∷◌, length, Some, None, Option, ◌≢◌, nat_lt, slice_index_or}
 use Rattle.search.specs.declared.queue.Reached.{Reached}
 use Rattle.search.specs.declared.find.Verdict.{Verdict}
 use Rattle.search.specs.declared.find.Verdict.TheVariants.{Pass, Empty, Lower, Add}
 use Rattle.search.specs.declared.find.Looked.{Looked}
 use Rattle.search.specs.declared.find.Looked.TheVariants.{Stopped, Went}
 use Rattle.search.specs.declared.queue.End.{End}
-use Rattle.refusal.specs.Tables.{at, put}
+use Rattle.refusal.specs.Tables.{at}
 use Rattle.search.specs.Scene.{Scene, Agrees}
 
 -- What stands past the queue's end.

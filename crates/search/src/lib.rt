@@ -7,6 +7,8 @@
 //! and so on. It ends at an unfilled slot, or at a slot whose programme is lower than the root. To flip
 //! it is to move each programme on it to the slot after it: the root is placed, and at most the lower
 //! programme at its end loses its slot.
+#![tactic(auto)]
+
 mod find;
 mod flip;
 pub mod improve;

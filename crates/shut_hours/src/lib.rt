@@ -1,4 +1,6 @@
 //! Shut hours: a layer over any source that allows nothing in its shut slots. It is not open.
+#![tactic(auto)]
+
 ghost use Rattle.std.specs.Prelude.{◌≡◌, false};
 ghost use Rattle.refusal.specs.Tables.{at};
 ghost use Rattle.shut_hours.specs.Shutting.{except_shut};

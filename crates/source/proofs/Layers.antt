@@ -1,9 +1,8 @@
 -- Lemmas on layers: the search for the first slot that is left.
-use Rattle.std.proofs.Common.{◌≡◌, ℕ, ◌+◌, ◌<◌, ◌≤◌, min, Bool, true, false, not, ◌&&◌, Some, None, Option, sym, ap, ◌∙◌, ⊎_elim, arith}
+use Rattle.std.proofs.Common.{◌≡◌, ℕ, ◌+◌, ◌<◌, ◌≤◌, Bool, true, false, not, Some, None, sym, ap, ◌∙◌, ⊎_elim, arith}
 use Rattle.std.proofs.lemmas.Bool.{and_left, and_right, and_parts, and_from, cases_Bool, both_ways}
 use Rattle.refusal.specs.Limits.{side}
-use Rattle.refusal.specs.Counting.{within, first_from}
-use Rattle.refusal.proofs.Counts.{within_bounds, within_from}
+use Rattle.refusal.proofs.Counts.{within_from}
 use Rattle.refusal.proofs.First.{first_here, first_on, first_jump, first_empty}
 use Rattle.source.specs.Pairs.{Pairs, inside, holds, first_slot, layered}
 use Rattle.source.proofs.Questions.{inside_programme, inside_slot, first_slot_found, no_slot_found}

@@ -1,5 +1,5 @@
 -- Counts that no maker refuses.
-use Rattle.std.proofs.Common.{◌≡◌, ℕ, ◌≤◌, Some, None, Option, arith}
+use Rattle.std.proofs.Common.{◌≡◌, ℕ, ◌≤◌, None, arith}
 use Rattle.std.proofs.lemmas.Bool.Decides.{nat_tests}
 use Rattle.refusal.specs.Limits.{side}
 use Rattle.refusal.specs.Refusals.{first_refusal}

@@ -1,7 +1,7 @@
 -- Lemmas on what a source is asked: its counts, and its first slots.
-use Rattle.std.proofs.Common.{◌≡◌, ℕ, ◌+◌, ◌-◌, ◌<◌, ◌≤◌, Bool, true, false, eqb, Some, None, Option, sym, ap, ◌∙◌, ⊎_elim, arith}
+use Rattle.std.proofs.Common.{◌≡◌, ℕ, ◌+◌, ◌-◌, ◌<◌, ◌≤◌, true, false, eqb, Some, None, sym, ap, ◌∙◌, ⊎_elim, arith}
 use Rattle.std.proofs.lemmas.Bool.{and_parts, cases_Bool, cases_eq, eq-eqb, ne_eqb}
-use Rattle.refusal.specs.Counting.{within, count}
+use Rattle.refusal.specs.Counting.{count}
 use Rattle.refusal.proofs.Counts.{within_bounds}
 use Rattle.refusal.proofs.First.{first_some, first_none, count_jump, count_last}
 use Rattle.source.specs.Pairs.{Pairs, inside, holds, first_slot}

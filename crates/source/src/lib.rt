@@ -1,4 +1,6 @@
 //! Pair sources: which programme may run in which slot, asked and edited.
+#![tactic(auto)]
+
 ghost use Rattle.std.specs.Prelude.{◌≡◌, ℕ, Bool, true, false, OnErr, OnOk};
 ghost use Rattle.refusal.specs.Counting.{count};
 ghost use Rattle.refusal.specs.Refusals.{refusal_of, first_refusal};
@@ -59,14 +61,14 @@ pub trait OpenSource: PairSource {
 
 /// Whether both numbers are within the source's counts.
 pub fn is_inside<S: PairSource>(source: &S, programme: Num, slot: Num) -> bool
-    ensures { result ≡ inside (pairs source.now) programme slot }
+    ensures { result ≡ inside (S.PairSource.pairs source.now) programme slot }
 {
     1 <= programme && programme <= source.programmes() && 1 <= slot && slot <= source.slots()
 }
 
 /// Whether the programme may run in the slot.
 pub fn allows<S: PairSource>(source: &S, programme: Num, slot: Num) -> bool
-    ensures { result ≡ holds (pairs source.now) programme slot }
+    ensures { result ≡ holds (S.PairSource.pairs source.now) programme slot }
 {
     if !is_inside(source, programme, slot) {
         return false;
@@ -79,7 +81,7 @@ pub fn allows<S: PairSource>(source: &S, programme: Num, slot: Num) -> bool
 
 /// In how many slots the programme may run.
 pub fn count_slots<S: PairSource>(source: &S, programme: Num) -> usize
-    ensures { result ≡ count (λ slot. holds (pairs source.now) programme slot) (pairs source.now).slots }
+    ensures { result ≡ count (λ slot. holds (S.PairSource.pairs source.now) programme slot) (S.PairSource.pairs source.now).slots }
 {
     let mut slots = 0;
     let mut from = 1;

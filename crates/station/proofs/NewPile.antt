@@ -1,5 +1,5 @@
 -- Lemmas on a new pile: it means what fits in open hours.
-use Rattle.std.proofs.Common.{◌≡◌, ℕ, ◌≤◌, min, Bool, false, not, ◌&&◌, List, length, IfOk, Ok, Err, vec_items, Result, sym, ap, ◌∙◌, arith}
+use Rattle.std.proofs.Common.{◌≡◌, ℕ, ◌≤◌, min, Bool, false, not, ◌&&◌, List, length, IfOk, Ok, Err, vec_items, Result, ap, ◌∙◌, arith}
 use Rattle.refusal.specs.Limits.{side}
 use Rattle.refusal.specs.Tables.{at}
 use Rattle.refusal.specs.declared.MakeError.{MakeError}

@@ -1,4 +1,6 @@
 //! The station's pile of sources: bars over shut hours over fit.
+#![tactic(auto)]
+
 ghost use Rattle.std.specs.Prelude.{◌≡◌, IfOk, vec_len};
 ghost use Rattle.refusal.specs.Refusals.{first_refusal};
 ghost use Rattle.source.specs.Makes.{make_refusal_of, count_refusals};

@@ -3,6 +3,8 @@
 //! Reads `pairs.mtx`, `programmes.mtx`, `slots.mtx`, `plan.mtx` and `proof.mtx` in the folder it is run
 //! in, or in the one named by its argument, and writes `accepted` or `rejected`. A refusal is written as
 //! `refused NUMBER PAGE LINE`, and then the status is 1. A missing file is an empty page.
+#![tactic(auto)]
+
 use anyhow::anyhow;
 use commands::answer::Answer;
 use commands::filed_pages::FiledBytes;

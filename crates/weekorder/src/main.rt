@@ -4,6 +4,8 @@
 //! prints the programmes highest first, ties by lower number: number, class and weeks of each.
 //! The first line that is not two whole numbers in range is told as `refused NUMBER waiting LINE`;
 //! then nothing else is printed, and the status is 1.
+#![tactic(auto)]
+
 mod order;
 mod waiting;
 

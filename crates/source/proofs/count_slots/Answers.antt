@@ -2,8 +2,8 @@ use Rattle.std.proofs.Common.{arith}
 use Rattle.source.proofs.Questions.{first_slot_found, count_found, count_done}
 use Rattle.source.proofs.count_slots.Goals as goal
 
-pub overflow-add-slots : goal.overflow-add-slots
-overflow-add-slots g c = omega (arith, c.loop-slot.invariant.3, c.loop-slot.invariant.4)
+pub overflow_add-slots : goal.overflow_add-slots
+overflow_add-slots g c = omega (arith, c.loop-slot.invariant.3, c.loop-slot.invariant.4)
 
 pub loop-slot-smaller : goal.loop-slot-smaller
 loop-slot-smaller g c =
@@ -25,4 +25,4 @@ loop-slot-preserved g c =
 pub returns : goal.returns
 returns g c =
     let (positive, within, counted, fewer, small) = c.loop-slot.invariant in
-    count_done (g.S.PairSource.pairs c.args.source.now) c.args.programme c.loop-slot.from c.loop-slot.slots positive within counted c.in-default.ensures
+    count_done (g.S.PairSource.pairs c.args.source.now) c.args.programme c.loop-slot.from c.loop-slot.slots positive within counted c.in_default.ensures

@@ -7,5 +7,5 @@ pub returns : goal.returns
 returns g c = record {
   answer = refl;
   below = refl;
-  pairs = none_barred (g.S.PairSource.pairs c.args.below) (grid_pairs c.in-ok-barred.barred) _ _ c.in-ok-barred.ensures.pairs;
+  pairs = none_barred (g.S.PairSource.pairs c.args.below) (grid_pairs c.in_ok-barred.barred) _ _ c.in_ok-barred.ensures.pairs;
 }

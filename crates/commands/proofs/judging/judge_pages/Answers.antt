@@ -1,4 +1,4 @@
-use Rattle.std.proofs.Common.{◌≡◌, ℕ, Bool, List, vec_items, sym, refl, ap, ◌∙◌}
+use Rattle.std.proofs.Common.{ℕ, List, vec_items, sym, refl, ap, ◌∙◌}
 use Rattle.refusal.specs.Refusals.{number_of}
 use Rattle.grid.specs.GridPairs.{grid_pairs}
 use Rattle.commands.specs.Pages.{filed_of}

@@ -1,4 +1,4 @@
-use Rattle.std.proofs.Common.{◌≡◌, Bool, List, IfOk, vec_items, sym, ap, ◌∙◌, subst}
+use Rattle.std.proofs.Common.{◌≡◌, List, IfOk, vec_items, sym, ◌∙◌}
 use Rattle.refusal.specs.Refusals.{refusal_of, first_refusal}
 use Rattle.priority.specs.declared.number.Number.{Number}
 use Rattle.plan.specs.Parts.{ranked}
@@ -15,10 +15,10 @@ returns c =
     let certificate = c.args.certificate.now in
     let xs = ranked c.new-programmes.result in
     let ys = ranked c.new-slots.result in
-    let ex : xs ≡ vec_items c.args.week.programmes = c.new-programmes.ensures.value ∙ c.deref-mut.ensures.value in
-    let ey : ys ≡ vec_items c.args.week.slots = c.new-slots.ensures.value ∙ c.deref-mut-2.ensures.value in
-    let fit = sym c.pages_fit.ensures ∙ c.if-not-pages-fit.false in
-    let ok = sym c.is-err.ensures.value ∙ c.if-is-err.false in
+    let ex : xs ≡ vec_items c.args.week.programmes = c.new-programmes.ensures.value ∙ c.deref_mut.ensures.value in
+    let ey : ys ≡ vec_items c.args.week.slots = c.new-slots.ensures.value ∙ c.deref_mut-2.ensures.value in
+    let fit = sym c.pages_fit.ensures ∙ c.if-not-pages_fit.false in
+    let ok = sym c.is_err.ensures.value ∙ c.if-is_err.false in
     let a = same_answer reaches_number pairs xs ys q certificate (held c.fill.new.self) c.fill.result c.judge.result fit ok c.fill.ensures.answer c.fill.ensures.after c.judge.ensures.answer in
     let b = same_verdict reaches_number pairs xs ys q certificate (held c.fill.new.self) c.fill.result c.judge.result fit ok c.fill.ensures.answer c.fill.ensures.after c.judge.ensures.passes in
     record {

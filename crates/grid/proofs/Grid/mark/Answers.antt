@@ -10,7 +10,7 @@ returns c =
     let grid = c.args.self.now in
     let cells = vec_items grid.cells in
     let len : length cells ≡ side * side = omega (arith, grid.cells.ok.0, grid.room) in
-    let cell = inside_cell (grid_pairs grid) c.args.programme c.args.slot grid.counts.0 grid.counts.1 (sym c.if-not-is-inside.ensures) in
+    let cell = inside_cell (grid_pairs grid) c.args.programme c.args.slot grid.counts.0 grid.counts.1 (sym c.if-not-is_inside.ensures) in
     record {
       answer = search rules;
       kept = tt;

@@ -5,8 +5,8 @@ use Rattle.page_text.proofs.line.line_kind.Goals as goal
 
 pub returns-in-Some : goal.returns-in-Some
 returns-in-Some c =
-    sym (kind_text c.args.line.now _ _ (sym c.if-begins-with-percent.ensures) (ap words (sym c.of-words.ensures) ∙ c.in-Some.ensures))
+    sym (kind_text c.args.line.now _ _ (sym c.if-begins_with_percent.ensures) (ap words (sym c.of-words.ensures) ∙ c.in-Some.ensures))
 
 pub returns-in-None : goal.returns-in-None
 returns-in-None c =
-    sym (kind_blank c.args.line.now (sym c.if-begins-with-percent.ensures) (ap words (sym c.of-words.ensures) ∙ c.in-None.ensures))
+    sym (kind_blank c.args.line.now (sym c.if-begins_with_percent.ensures) (ap words (sym c.of-words.ensures) ∙ c.in-None.ensures))

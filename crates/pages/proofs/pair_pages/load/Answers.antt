@@ -1,4 +1,4 @@
-use Rattle.std.proofs.Common.{◌≡◌, Ok, Err, ap, ◌∙◌}
+use Rattle.std.proofs.Common.{Ok, Err, ap, ◌∙◌}
 use Rattle.grid.specs.GridPairs.{grid_pairs}
 use Rattle.pages.specs.PairPages.{pairs_left}
 use Rattle.pages.proofs.PairLaws.{pairs_entries, pairs_first}

@@ -1,8 +1,8 @@
-use Rattle.std.proofs.Common.{◌≡◌, ℕ, ◌<◌, Bool, cond, ◌≢◌, length, ap, ◌∙◌, arith, get_or-set_other, get_or-set_same, rules, below_more}
+use Rattle.std.proofs.Common.{ℕ, ◌<◌, Bool, cond, ◌≢◌, length, ap, ◌∙◌, arith, get_or-set_other, get_or-set_same, below_more}
 use Rattle.planner.proofs.choose.mark_waiting.Goals as goal
 
 pub loop-i-preserved : goal.loop-i-preserved
 loop-i-preserved c =
     below_more _ _
     (λ k h. let ne : k ≢ c.loop-i.i = omega arith in rw get_or-set_other (c.loop-i.invariant k h))
-    (let lt : c.loop-i.i < length c.loop-i.marks = omega arith in rw get_or-set_same (c.mark-of.ensures ∙ ap {B = ℕ} (λ (b : Bool). cond b 1 0) c.is-waiting.ensures))
+    (let lt : c.loop-i.i < length c.loop-i.marks = omega arith in rw get_or-set_same (c.mark_of.ensures ∙ ap {B = ℕ} (λ (b : Bool). cond b 1 0) c.is_waiting.ensures))

@@ -1,13 +1,14 @@
-use Rattle.std.proofs.Common.{◌≡◌, Bool, false, List, sym, refl, ap, ◌∙◌, subst, arith}
+use Rattle.std.proofs.Common.{◌≤◌, Bool, false, length, sym, refl, ap, ◌∙◌, subst, arith, rules}
 use Rattle.refusal.specs.Tables.{at}
-use Rattle.plan.specs.Held.{Held, Sides, held}
+use Rattle.refusal.proofs.Counts.{count_most}
+use Rattle.plan.specs.Held.{Sides, held}
 use Rattle.search.proofs.Agreement.{plan_agrees, none_marked}
 use Rattle.search.proofs.Parts.{fit_parts}
-use Rattle.planner.specs.Run.{Setting, setting_of, ChosenOf, StateOf, Clear, Advanced}
+use Rattle.planner.specs.Run.{setting_of, StateOf, Clear, Advanced}
 use Rattle.planner.proofs.Passing.{begin, finish}
 use Rattle.planner.proofs.Plans.{plan_lengths, fit_kept}
 use Rattle.planner.proofs.Found.{no_moves}
-use Rattle.planner.proofs.Running.{going_on, fewer, choice_root, none_left}
+use Rattle.planner.proofs.Running.{going_on, fewer, choice_root, none_left, none_counted, root_counted}
 use Rattle.planner.proofs.pass.run_pass.Goals as goal
 
 pub loop-root-init : goal.loop-root-init
@@ -18,13 +19,21 @@ loop-root-init g c = (
     state = begin _ _ _ _ _ c.requires.unnamed (none_marked _ _ (c.fill.ensures.after (λ y e. e)));
   },
   refl,
+  sym (none_counted _ _ (none_marked _ _ (c.fill.ensures.after (λ y e. e)))),
 )
+
+pub overflow_add-searches : goal.overflow_add-searches
+overflow_add-searches g c =
+    let fit = fit_parts (g.S.PairSource.pairs c.args.source.now) c.args.ranking.now (held c.args.plan.now) c.requires.fit in
+    let most = count_most (at false c.loop-root.done) (length c.args.ranking.now) in
+    let few : c.loop-root.searches ≤ 200 = omega (arith, c.loop-root.invariant.2, (plan_lengths c.args.plan.now).few, fit.1) in
+    search rules
 
 pub choose-requires : goal.choose-requires
 choose-requires g c =
     let plan = c.loop-root.plan in
     let fit = fit_parts (g.S.PairSource.pairs c.args.source.now) c.args.ranking.now (held c.args.plan.now) c.requires.fit in
-    let same = ap (λ (s : Sides Bool). lib.ListN.length s.programmes) c.loop-root.invariant.1 in
+    let same = ap (λ (s : Sides Bool). length s.programmes) c.loop-root.invariant.1 in
     let lengths = plan_lengths c.args.plan.now in
     record { lens = (omega (arith, lengths.programmes, fit.1), omega (arith, lengths.few, fit.1), omega (arith, lengths.few, fit.1)) }
 
@@ -62,7 +71,12 @@ loop-root-preserved g c =
     let plan = held c.loop-root.plan in
     let next = held c.advance.new.plan in
     let step = subst (λ (a : Sides Bool). Advanced (setting_of reaches pairs ranking a) plan.slot_of plan.programme_in c.loop-root.done c.in-Some.root next.slot_of next.programme_in c.advance.new.names c.advance.new.done) c.loop-root.invariant.1 c.advance.ensures.after in
-    (going_on _ _ _ _ _ _ _ _ _ _ _ _ c.loop-root.invariant.0 step, c.advance.ensures.attendance ∙ c.loop-root.invariant.1)
+    let lengths = plan_lengths c.loop-root.plan in
+    let fit = fit_parts pairs ranking (held c.args.plan.now) c.requires.fit in
+    let same = ap (λ (s : Sides Bool). length s.programmes) c.loop-root.invariant.1 in
+    let G = setting_of reaches pairs ranking plan.attendance in
+    let more = root_counted G plan.slot_of plan.programme_in _ _ _ c.loop-root.done _ c.in-Some.root (length ranking) (omega (arith, lengths.programmes, lengths.few)) (omega (arith, (plan_lengths c.args.plan.now).programmes, fit.1)) (choice_root G plan.slot_of c.loop-root.done c.in-Some.root c.in-Some.ensures) c.advance.ensures.after in
+    (going_on _ _ _ _ _ _ _ _ _ _ _ _ c.loop-root.invariant.0 step, c.advance.ensures.attendance ∙ c.loop-root.invariant.1, omega (arith, c.loop-root.invariant.2, more))
 
 pub returns : goal.returns
 returns g c =
@@ -72,11 +86,13 @@ returns g c =
     let first = held c.args.plan.now in
     let plan = held c.loop-root.plan in
     let e = c.loop-root.invariant.1 in
-    let all = none_left (setting_of reaches pairs ranking plan.attendance) plan.slot_of c.loop-root.done c.in-default.ensures in
+    let all = none_left (setting_of reaches pairs ranking plan.attendance) plan.slot_of c.loop-root.done c.in_default.ensures in
     record {
       after = record {
         moves = c.loop-root.invariant.0.moves;
         settled = finish _ _ _ _ _ c.loop-root.invariant.0.state (λ x f. all x (ap (λ (a : Sides Bool). at false a.programmes x) e ∙ f));
       };
       attendance = e;
+      searches = c.loop-root.invariant.2;
+      most = omega (arith, c.loop-root.invariant.2, count_most (at false c.loop-root.done) (length ranking));
     }

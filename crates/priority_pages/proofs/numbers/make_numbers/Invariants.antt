@@ -1,4 +1,4 @@
-use Rattle.std.proofs.Common.{◌≡◌, ◌+◌, ◌*◌, ◌≤◌, vec_items, vec_len, vec_capacity}
+use Rattle.std.proofs.Common.{◌≡◌, ◌*◌, ◌≤◌, vec_items, vec_len, vec_capacity}
 use Rattle.refusal.specs.Limits.{side}
 use Rattle.refusal.specs.Tables.{at}
 use Rattle.priority_pages.specs.PriorityPages.{number_of, is_number}

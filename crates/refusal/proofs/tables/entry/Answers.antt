@@ -1,5 +1,5 @@
 use Rattle.std.proofs.Common.{sym, arith}
-use Rattle.refusal.proofs.Entries.{at_read, at_past}
+use Rattle.refusal.proofs.Entries.{at_past}
 use Rattle.refusal.proofs.tables.entry.Goals as goal
 
 pub returns-then-number-eq0 : goal.returns-then-number-eq0

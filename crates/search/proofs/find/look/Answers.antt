@@ -1,10 +1,9 @@
-use Rattle.std.proofs.Common.{◌≡◌, ℕ, ◌+◌, ◌<◌, ◌≤◌, Bool, true, List, length, set, Some, None, Option, sym, ap, ◌∙◌, subst, arith, rules}
-use Rattle.refusal.specs.Tables.{at, put}
-use Rattle.source.specs.Pairs.{holds}
+use Rattle.std.proofs.Common.{◌≡◌, ℕ, ◌+◌, ◌≤◌, Bool, true, List, length, set, Some, None, Option, sym, ap, ◌∙◌, subst, arith}
+use Rattle.refusal.specs.Tables.{put}
 use Rattle.search.specs.declared.queue.Reached.{Reached}
 use Rattle.search.specs.Views.{seen}
-use Rattle.search.specs.Search.{Fresh, who, depth_of}
-use Rattle.search.proofs.Asking.{First, holds_within, first_is}
+use Rattle.search.specs.Search.{depth_of}
+use Rattle.search.proofs.Asking.{holds_within, first_is}
 use Rattle.search.proofs.Looking.{Looking, start_step, pass_step, lower_step, add_step, stop_step, end_step, has_room}
 use Rattle.search.proofs.find.look.Goals as goal
 
@@ -22,7 +21,7 @@ grow-requires g c =
     let f = c.in-Add.ensures in
     let y-in : c.in-Add.holder ≤ length c.loop-slot.marks = omega (arith, f.sits, c.requires.entries c.in-Some.slot) in
     record {
-      count-in = has_room _ _ _ _ _ _ _ _ _ _ c.requires.from_in c.loop-slot.invariant c.in-Some.slot c.in-Add.holder f y-in (omega arith);
+      count_in = has_room _ _ _ _ _ _ _ _ _ _ c.requires.from_in c.loop-slot.invariant c.in-Some.slot c.in-Add.holder f y-in (omega arith);
       member_in = (f.number, y-in);
     }
 
@@ -39,12 +38,12 @@ loop-slot-preserved g c =
     let sc = seen g.S.PairSource.pairs g.P.Priority.reaches c.args.view.now in
     let G : List Reached → ℕ → List Bool → Option ℕ → Type 0 =
     λ q n m w. Looking sc c.args.queue.now c.args.len c.args.marks.now c.args.from q n m w (c.in-Some.slot + 1) in
-    let to : (q : List Reached) (n : ℕ) (m : List Bool) (w : Option ℕ) → c.match-verdict-on.queue ≡ q → c.match-verdict-on.count ≡ n → c.match-verdict-on.marks ≡ m → c.match-verdict-on.lower ≡ w → G q n m w
-    → G c.match-verdict-on.queue c.match-verdict-on.count c.match-verdict-on.marks c.match-verdict-on.lower =
-    λ q n m w a b d e h. subst (λ (z : List Reached). G z c.match-verdict-on.count c.match-verdict-on.marks c.match-verdict-on.lower) (sym a)
-    (subst (λ (z : ℕ). G q z c.match-verdict-on.marks c.match-verdict-on.lower) (sym b)
-    (subst (λ (z : List Bool). G q n z c.match-verdict-on.lower) (sym d) (subst (λ (z : Option ℕ). G q n m z) (sym e) h))) in
-    elim c.match-verdict-on.branch [
+    let to : (q : List Reached) (n : ℕ) (m : List Bool) (w : Option ℕ) → c.match-verdict_on.queue ≡ q → c.match-verdict_on.count ≡ n → c.match-verdict_on.marks ≡ m → c.match-verdict_on.lower ≡ w → G q n m w
+    → G c.match-verdict_on.queue c.match-verdict_on.count c.match-verdict_on.marks c.match-verdict_on.lower =
+    λ q n m w a b d e h. subst (λ (z : List Reached). G z c.match-verdict_on.count c.match-verdict_on.marks c.match-verdict_on.lower) (sym a)
+    (subst (λ (z : ℕ). G q z c.match-verdict_on.marks c.match-verdict_on.lower) (sym b)
+    (subst (λ (z : List Bool). G q n z c.match-verdict_on.lower) (sym d) (subst (λ (z : Option ℕ). G q n m z) (sym e) h))) in
+    elim c.match-verdict_on.branch [
       | goal.in-Pass w ↦ to c.loop-slot.queue c.loop-slot.count c.loop-slot.marks c.loop-slot.lower w.queue-is w.count-is w.marks-is w.lower-is
           (pass_step _ _ _ _ _ _ _ _ _ _ c.requires.from_in c.loop-slot.invariant c.in-Some.slot f w.in-Pass.ensures)
       | goal.in-Lower w ↦ to c.loop-slot.queue c.loop-slot.count c.loop-slot.marks (Some c.in-Some.slot) w.queue-is w.count-is w.marks-is w.lower-is
@@ -60,4 +59,4 @@ loop-slot-preserved g c =
     ]
 
 pub returns : goal.returns
-returns g c = end_step _ _ _ _ _ _ _ _ _ _ c.requires.from_in c.loop-slot.invariant (first_is (g.S.PairSource.pairs c.args.view.now.source.now) _ _ None c.in-default.ensures)
+returns g c = end_step _ _ _ _ _ _ _ _ _ _ c.requires.from_in c.loop-slot.invariant (first_is (g.S.PairSource.pairs c.args.view.now.source.now) _ _ None c.in_default.ensures)

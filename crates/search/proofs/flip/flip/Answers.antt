@@ -1,4 +1,4 @@
-use Rattle.std.proofs.Common.{◌≡◌, ℕ, ◌<◌, ◌≤◌, List, length, sym, refl, ap, ◌∙◌, subst, arith, rules}
+use Rattle.std.proofs.Common.{◌≡◌, ℕ, ◌<◌, List, length, sym, refl, ap, ◌∙◌, subst, arith, rules}
 use Rattle.std.proofs.lemmas.Bool.{and_from}
 use Rattle.refusal.proofs.Counts.{within_from}
 use Rattle.plan.specs.declared.Plan.{Plan}
@@ -27,11 +27,11 @@ module _ (plan first : Plan) (queue : List Reached) (from slot : ℕ) (sh : Shap
 pub bounds-queue-place : goal.bounds-queue-place
 bounds-queue-place c = let w = walk c.args.plan.now c.vacate.new.self c.args.queue.now c.args.end.from c.args.end.slot c.requires.shape c.vacate.ensures.after _ _ _ _ c.loop-place.invariant.0 in omega (arith, w.within, c.requires.shape.within)
 
-pub offset-bounds-queue-place : goal.offset-bounds-queue-place
-offset-bounds-queue-place c = let h : c.loop-place.place < length c.args.queue.now = bounds-queue-place c in search rules
+pub offset_bounds-queue-place : goal.offset_bounds-queue-place
+offset_bounds-queue-place c = let h : c.loop-place.place < length c.args.queue.now = bounds-queue-place c in search rules
 
-pub move-to-requires : goal.move-to-requires
-move-to-requires c =
+pub move_to-requires : goal.move_to-requires
+move_to-requires c =
     let w = walk c.args.plan.now c.vacate.new.self c.args.queue.now c.args.end.from c.args.end.slot c.requires.shape c.vacate.ensures.after _ _ _ _ c.loop-place.invariant.0 in
     let before = held c.args.plan.now in
     let b = prog_in before.slot_of before.programme_in c.args.queue.now c.args.end.from c.args.end.slot (plan_agrees c.args.plan.now) c.requires.shape c.loop-place.place w.within in
@@ -43,17 +43,17 @@ loop-place-smaller c = let w = walk c.args.plan.now c.vacate.new.self c.args.que
 pub loop-place-preserved : goal.loop-place-preserved
 loop-place-preserved c =
     let now = held c.loop-place.plan in
-    let next = held c.move-to.new.plan in (
+    let next = held c.move_to.new.plan in (
       λ slot_of member_in ag sh f.
           let w = c.loop-place.invariant.0 slot_of member_in ag sh f in
           let b = prog_in slot_of member_in c.args.queue.now c.args.end.from c.args.end.slot ag sh c.loop-place.place w.within in
-          let mv = assign_moves now next w.agrees (who c.args.queue.now c.loop-place.place) c.loop-place.slot (sh.number c.loop-place.place w.within) (omega (arith, w.slot_len)) w.slot.0 (omega (arith, w.slot.1, w.member_len)) w.empty c.move-to.ensures in
+          let mv = assign_moves now next w.agrees (who c.args.queue.now c.loop-place.place) c.loop-place.slot (sh.number c.loop-place.place w.within) (omega (arith, w.slot_len)) w.slot.0 (omega (arith, w.slot.1, w.member_len)) w.empty c.move_to.ensures in
           walk_step slot_of member_in c.args.queue.now c.args.end.from c.args.end.slot ag sh _ _ c.loop-place.slot c.loop-place.place w _ _ mv (omega arith),
-      ap (λ (h : Held). h.attendance) c.move-to.ensures ∙ c.loop-place.invariant.1,
+      ap (λ (h : Held). h.attendance) c.move_to.ensures ∙ c.loop-place.invariant.1,
     )
 
-pub move-to-requires-2 : goal.move-to-requires-2
-move-to-requires-2 c =
+pub move_to-requires-2 : goal.move_to-requires-2
+move_to-requires-2 c =
     let w = walk c.args.plan.now c.vacate.new.self c.args.queue.now c.args.end.from c.args.end.slot c.requires.shape c.vacate.ensures.after _ _ _ _ c.loop-place.invariant.0 in
     and_from _ _ (within_from _ _ (c.requires.shape.number 0 (omega arith)) (omega (arith, w.slot_len, c.requires.shape.root))) (within_from _ _ w.slot.0 (omega (arith, w.slot.1, w.member_len)))
 
@@ -62,12 +62,12 @@ returns c =
     let w = walk c.args.plan.now c.vacate.new.self c.args.queue.now c.args.end.from c.args.end.slot c.requires.shape c.vacate.ensures.after _ _ _ _ c.loop-place.invariant.0 in
     let before = held c.args.plan.now in
     let now = held c.loop-place.plan in
-    let next = held c.move-to-2.new.plan in
+    let next = held c.move_to-2.new.plan in
     let z : c.loop-place.place ≡ 0 = c.loop-place-test.false in
-    let mv = assign_moves now next w.agrees (who c.args.queue.now 0) c.loop-place.slot (c.requires.shape.number 0 (omega arith)) (omega (arith, w.slot_len, c.requires.shape.root)) w.slot.0 (omega (arith, w.slot.1, w.member_len)) w.empty c.move-to-2.ensures in
+    let mv = assign_moves now next w.agrees (who c.args.queue.now 0) c.loop-place.slot (c.requires.shape.number 0 (omega arith)) (omega (arith, w.slot_len, c.requires.shape.root)) w.slot.0 (omega (arith, w.slot.1, w.member_len)) w.empty c.move_to-2.ensures in
     let mv-place : Moved (who c.args.queue.now c.loop-place.place) c.loop-place.slot now.slot_of now.programme_in next.slot_of next.programme_in =
     subst (λ (j : ℕ). Moved (who c.args.queue.now j) c.loop-place.slot now.slot_of now.programme_in next.slot_of next.programme_in) (sym z) mv in
     record {
       after = last_step before.slot_of before.programme_in c.args.queue.now c.args.end.from c.args.end.slot (plan_agrees c.args.plan.now) c.requires.shape _ _ c.loop-place.slot c.loop-place.place w _ _ mv-place z;
-      kept = ap (λ (h : Held). h.attendance) c.move-to-2.ensures ∙ c.loop-place.invariant.1 ∙ ap (λ (h : Held). h.attendance) c.vacate.ensures.after;
+      kept = ap (λ (h : Held). h.attendance) c.move_to-2.ensures ∙ c.loop-place.invariant.1 ∙ ap (λ (h : Held). h.attendance) c.vacate.ensures.after;
     }

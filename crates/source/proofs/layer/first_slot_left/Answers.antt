@@ -26,4 +26,4 @@ loop-slot-preserved g c =
 
 pub returns : goal.returns
 returns g c =
-    layer_end (g.S.PairSource.pairs c.args.below.now) (g.E.Exclusion.excluded c.args.out.now) c.args.programme c.loop-slot.next c.in-default.ensures ∙ c.loop-slot.invariant
+    layer_end (g.S.PairSource.pairs c.args.below.now) (g.E.Exclusion.excluded c.args.out.now) c.args.programme c.loop-slot.next c.in_default.ensures ∙ c.loop-slot.invariant

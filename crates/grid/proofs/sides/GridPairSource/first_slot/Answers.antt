@@ -4,20 +4,20 @@ use Rattle.source.specs.Pairs.{holds}
 use Rattle.grid.specs.GridPairs.{grid_pairs}
 use Rattle.grid.proofs.sides.GridPairSource.first_slot.Goals as goal
 
-pub returns-then-is-allowed : goal.returns-then-is-allowed
-returns-then-is-allowed c =
+pub returns-then-is_allowed : goal.returns-then-is_allowed
+returns-then-is_allowed c =
     let pairs = grid_pairs c.args.self.now in
-    sym (c.loop-slot.invariant ∙ first_here (holds pairs c.args.programme) _ _ c.loop-slot-test.true (sym c.if-is-allowed.ensures))
+    sym (c.loop-slot.invariant ∙ first_here (holds pairs c.args.programme) _ _ c.loop-slot-test.true (sym c.if-is_allowed.ensures))
 
 pub loop-slot-preserved : goal.loop-slot-preserved
 loop-slot-preserved c =
     let pairs = grid_pairs c.args.self.now in
-    c.loop-slot.invariant ∙ first_on (holds pairs c.args.programme) _ _ (sym c.if-is-allowed.ensures)
+    c.loop-slot.invariant ∙ first_on (holds pairs c.args.programme) _ _ (sym c.if-is_allowed.ensures)
 
-pub returns-else-is-allowed : goal.returns-else-is-allowed
-returns-else-is-allowed c =
+pub returns-else-is_allowed : goal.returns-else-is_allowed
+returns-else-is_allowed c =
     let pairs = grid_pairs c.args.self.now in
-    sym (c.loop-slot.invariant ∙ first_on (holds pairs c.args.programme) _ _ (sym c.if-is-allowed.ensures) ∙ first_end (holds pairs c.args.programme) pairs.slots (c.loop-slot.slot + 1) (omega arith))
+    sym (c.loop-slot.invariant ∙ first_on (holds pairs c.args.programme) _ _ (sym c.if-is_allowed.ensures) ∙ first_end (holds pairs c.args.programme) pairs.slots (c.loop-slot.slot + 1) (omega arith))
 
 pub returns : goal.returns
 returns c =

@@ -1,8 +1,8 @@
 use Rattle.std.proofs.Common.{rules}
 use Rattle.source.proofs.turned.TurnedOpenSource.lift.Goals as goal
 
-pub returns-in-err-lift : goal.returns-in-err-lift
-returns-in-err-lift g c = record {
+pub returns-in_err-lift : goal.returns-in_err-lift
+returns-in_err-lift g c = record {
   answer = search rules;
   kept = search rules;
   counts = search rules;

@@ -1,0 +1,2 @@
+mod RuleTests
+mod Shown

@@ -1,0 +1,3 @@
+pub mod RuleTests
+pub mod Weeks
+pub mod Cases

@@ -1,0 +1,5 @@
+pub mod Entries
+pub mod Telling
+pub mod Steps
+pub mod Works
+pub mod New

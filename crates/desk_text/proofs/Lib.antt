@@ -1,0 +1,3 @@
+mod Following
+mod Orders
+mod Entries

@@ -1,0 +1,5 @@
+pub mod Starts
+pub mod Forms
+pub mod Orders
+pub mod Answers
+pub mod Calls

@@ -1,0 +1,3 @@
+pub mod Calls
+pub mod Planned
+pub mod Sheets

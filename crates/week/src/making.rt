@@ -1,0 +1,44 @@
+//! How a week is made, handed over and reopened.
+ghost use Rattle.std.specs.Prelude.{◌≡◌, [], IfOk};
+ghost use Rattle.plan.specs.Held.{held, nothing};
+ghost use Rattle.week.specs.Sheets.{plan_in, certificate_in};
+
+use crate::{FiledWeek, Sheet, Week};
+use plan::Plan;
+use planner::certificate::Certificate;
+use planner::workspace::Workspace;
+use std::alloc::{AllocError, Global};
+
+impl Week {
+    /// A week of no programmes and no slots, with room for `SIDE` a side.
+    pub fn new(heap: Global) -> Result<Week, AllocError>
+        ensures plan { IfOk result (λ week. plan_in week.sheet ≡ nothing 0 0) }
+        ensures certificate { IfOk result (λ week. certificate_in week.sheet ≡ []) }
+    {
+        let plan = Plan::new(heap)?;
+        let certificate = Certificate::new(heap)?;
+        let workspace = Workspace::new(heap)?;
+        let sheet = Sheet {
+            plan,
+            certificate,
+            workspace,
+        };
+        Ok(Week { sheet })
+    }
+
+    /// Hands the week over: plan and certificate stay, and it cannot be edited until it is reopened.
+    pub fn hand_over(self) -> FiledWeek
+        ensures { result.sheet ≡ self.sheet }
+    {
+        FiledWeek { sheet: self.sheet }
+    }
+}
+
+impl FiledWeek {
+    /// Opens the week again: plan and certificate stay.
+    pub fn reopen(self) -> Week
+        ensures { result.sheet ≡ self.sheet }
+    {
+        Week { sheet: self.sheet }
+    }
+}

@@ -1,0 +1,72 @@
+//! What an open week tells: its plan, which answers the questions and is judged, and its certificate.
+ghost use Rattle.std.specs.Prelude.{◌≡◌, length, OnErr, OnOk, nat_le};
+ghost use Rattle.refusal.specs.Refusals.{refusal_of, first_refusal};
+ghost use Rattle.plan.specs.Parts.{ranked, fits};
+ghost use Rattle.week.specs.Calls.{certificate_refusals};
+ghost use Rattle.week.specs.Sheets.{plan_in, certificate_in, entry_count, over};
+
+use crate::{Sheet, Week};
+use plan::Plan;
+use planner::certificate::Certificate;
+use priority::Priority;
+use priority::ranking::Ranking;
+use refusal::Refusal;
+use source::PairSource;
+
+impl Sheet {
+    /// Writes the stored certificate over the start of the table; further places are kept. Refuses 12
+    /// where the parts do not fit together, and 13 where the table is too short.
+    pub(crate) fn tell_certificate<S: PairSource, P: Priority + Copy>(
+        &self,
+        source: &S,
+        programmes: &Ranking<P>,
+        slots: &Ranking<P>,
+        table: &mut [u16],
+    ) -> Result<(), Refusal>
+        ensures answer { refusal_of result ≡ first_refusal (certificate_refusals (fits (S.PairSource.pairs source.now) (ranked programmes.now) (ranked slots.now) (plan_in self.now)) (nat_le (entry_count self.now) (length table.old))) }
+        ensures kept { OnErr result (table.new ≡ table.old) }
+        ensures told { OnOk result (table.new ≡ over (certificate_in self.now) table.old) }
+    {
+        if !self.plan.fits(source, programmes, slots) {
+            return Err(Refusal::Mismatch);
+        }
+        if table.len() < self.certificate.programmes().len() + self.certificate.slots().len() {
+            return Err(Refusal::TableTooShort);
+        }
+        self.write_certificate(table);
+        Ok(())
+    }
+}
+
+impl Week {
+    /// The plan with its attendance, to be asked and judged.
+    pub fn plan(&self) -> &Plan
+        ensures { result.now ≡ self.now.sheet.plan }
+    {
+        &self.sheet.plan
+    }
+
+    /// The stored certificate: whom each programme and each slot names.
+    pub fn stored(&self) -> &Certificate
+        ensures { result.now ≡ self.now.sheet.certificate }
+    {
+        &self.sheet.certificate
+    }
+
+    /// Writes the stored certificate over the start of the table; further places are kept. Refuses 12
+    /// where the parts do not fit together, and 13 where the table is too short.
+    pub fn certificate<S: PairSource, P: Priority + Copy>(
+        &self,
+        source: &S,
+        programmes: &Ranking<P>,
+        slots: &Ranking<P>,
+        table: &mut [u16],
+    ) -> Result<(), Refusal>
+        ensures answer { refusal_of result ≡ first_refusal (certificate_refusals (fits (S.PairSource.pairs source.now) (ranked programmes.now) (ranked slots.now) (plan_in self.now.sheet)) (nat_le (entry_count self.now.sheet) (length table.old))) }
+        ensures kept { OnErr result (table.new ≡ table.old) }
+        ensures told { OnOk result (table.new ≡ over (certificate_in self.now.sheet) table.old) }
+    {
+        self.sheet
+            .tell_certificate(source, programmes, slots, table)
+    }
+}

@@ -1,0 +1,55 @@
+//! What every call of a week comes down to: planning anew, and telling the certificate.
+ghost use Rattle.std.specs.Prelude.{◌≡◌, ◌+◌, ◌≤◌, true, length};
+ghost use Rattle.plan.specs.Parts.{ranked, fits};
+ghost use Rattle.week.specs.Planned.{Planned};
+ghost use Rattle.week.specs.Sheets.{plan_in, certificate_in, over};
+
+use crate::Sheet;
+use planner::settle::settle;
+use priority::Priority;
+use priority::ranking::Ranking;
+use refusal::limits::Num;
+use source::PairSource;
+
+/// Writes the numbers over the start of the table; further places are kept.
+fn write_over(numbers: &[Num], table: &mut [u16])
+    requires { length numbers.now ≤ length table.old }
+    ensures { table.new ≡ over numbers.now table.old }
+{
+    for i in 0..numbers.len() {
+        table[i] = u16::from(numbers[i]);
+    }
+}
+
+impl Sheet {
+    /// Plans anew for parts that fit together.
+    pub(crate) fn renew<S: PairSource, P: Priority + Copy>(
+        &mut self,
+        source: &S,
+        programmes: &Ranking<P>,
+        slots: &Ranking<P>,
+    )
+        requires { fits (S.PairSource.pairs source.now) (ranked programmes.now) (ranked slots.now) (plan_in self.old) ≡ true }
+        ensures attendance { (plan_in self.new).attendance ≡ (plan_in self.old).attendance }
+        ensures planned { Planned P.Priority.reaches (S.PairSource.pairs source.now) (ranked programmes.now) (ranked slots.now) (plan_in self.new) (certificate_in self.new) }
+    {
+        let _ = settle(
+            source,
+            programmes,
+            slots,
+            &mut self.plan,
+            &mut self.certificate,
+            &mut self.workspace,
+        );
+    }
+
+    /// Writes the certificate over the start of the table.
+    pub(crate) fn write_certificate(&self, table: &mut [u16])
+        requires { length self.now.certificate.programmes.items + length self.now.certificate.slots.items ≤ length table.old }
+        ensures { table.new ≡ over (certificate_in self.now) table.old }
+    {
+        let count = self.certificate.programmes().len();
+        write_over(self.certificate.programmes(), table);
+        write_over(self.certificate.slots(), &mut table[count..]);
+    }
+}
