@@ -4,6 +4,9 @@
 
 ghost use Rattle.std.specs.Prelude.{◌≡◌};
 ghost use Rattle.refusal.specs.Refusals.{number_of};
+ghost use Rattle.refusal.specs.declared.MakeError.TheVariants.{Refused, NoMemory};
+
+use std::alloc::AllocError;
 
 pub mod limits;
 pub mod tables;
@@ -12,41 +15,41 @@ pub mod tables;
 #[derive(Clone, Copy, PartialEq, Eq, Debug)]
 pub enum Refusal {
     /// 1: the page is longer than 65,536 bytes.
-    PageTooLong,
+    PageTooLong = 1,
     /// 2: a line is longer than 1,024 bytes, its line feed not counted.
-    LineTooLong,
+    LineTooLong = 2,
     /// 3: the header is missing or of another kind.
-    Header,
+    Header = 3,
     /// 4: the size line is missing or not the whole numbers wanted.
-    SizeLine,
+    SizeLine = 4,
     /// 5: a size is beyond the limits.
-    SizeLimit,
+    SizeLimit = 5,
     /// 6: an entry line is not the whole numbers wanted.
-    EntryLine,
+    EntryLine = 6,
     /// 7: an index or a value of an entry is out of range.
-    EntryRange,
+    EntryRange = 7,
     /// 8: a pair is given twice.
-    PairTwice,
+    PairTwice = 8,
     /// 9: there are too few or too many entries.
-    EntryCount,
+    EntryCount = 9,
     /// 10: a programme or slot number is 0 or beyond its count.
-    UnknownNumber,
+    UnknownNumber = 10,
     /// 11: a number is outside the ranges of a priority, a programme or a slot.
-    ValueRange,
+    ValueRange = 11,
     /// 12: counts or lengths do not fit together.
-    Mismatch,
+    Mismatch = 12,
     /// 13: a supplied table is too short.
-    TableTooShort,
+    TableTooShort = 13,
     /// 14: withdraw of one that is already absent.
-    AlreadyAbsent,
+    AlreadyAbsent = 14,
     /// 15: restore of one that is already present.
-    AlreadyPresent,
+    AlreadyPresent = 15,
     /// 16: bar of a pair that is not allowed.
-    NotAllowed,
+    NotAllowed = 16,
     /// 17: lift of a pair that is already allowed.
-    AlreadyAllowed,
+    AlreadyAllowed = 17,
     /// 18: lift of a pair that is neither allowed nor possible.
-    NotPossible,
+    NotPossible = 18,
 }
 
 impl Refusal {
@@ -54,26 +57,7 @@ impl Refusal {
     pub fn number(self) -> u8
         ensures { result ≡ number_of self }
     {
-        match self {
-            Refusal::PageTooLong => 1,
-            Refusal::LineTooLong => 2,
-            Refusal::Header => 3,
-            Refusal::SizeLine => 4,
-            Refusal::SizeLimit => 5,
-            Refusal::EntryLine => 6,
-            Refusal::EntryRange => 7,
-            Refusal::PairTwice => 8,
-            Refusal::EntryCount => 9,
-            Refusal::UnknownNumber => 10,
-            Refusal::ValueRange => 11,
-            Refusal::Mismatch => 12,
-            Refusal::TableTooShort => 13,
-            Refusal::AlreadyAbsent => 14,
-            Refusal::AlreadyPresent => 15,
-            Refusal::NotAllowed => 16,
-            Refusal::AlreadyAllowed => 17,
-            Refusal::NotPossible => 18,
-        }
+        self as u8
     }
 }
 
@@ -84,4 +68,20 @@ pub enum MakeError {
     Refused(Refusal),
     /// There was no memory for it.
     NoMemory,
+}
+
+impl From<Refusal> for MakeError {
+    ghost from_gives = { λ refusal error. error ≡ Refused refusal };
+
+    fn from(refusal: Refusal) -> MakeError {
+        MakeError::Refused(refusal)
+    }
+}
+
+impl From<AllocError> for MakeError {
+    ghost from_gives = { λ _ error. error ≡ NoMemory };
+
+    fn from(_error: AllocError) -> MakeError {
+        MakeError::NoMemory
+    }
 }
