@@ -8,7 +8,6 @@
 #![tactic(auto)]
 
 pub mod edits;
-pub mod filed;
 pub mod load;
 pub mod making;
 pub mod questions;
@@ -26,14 +25,20 @@ pub(crate) struct Sheet {
     workspace: Workspace,
 }
 
-/// An open week.
+/// The state of a week that can be loaded and edited.
+#[derive(Clone, Copy, Debug)]
+pub struct Open;
+
+/// The state of a week that is handed over: it can only be asked, judged and written to pages.
+#[derive(Clone, Copy, Debug)]
+pub struct HandedOver;
+
+/// A week in one of the two states.
 #[derive(Drop)]
-pub struct Week {
+pub struct Week<State = Open> {
     sheet: Sheet,
+    state: State,
 }
 
 /// A week that is handed over.
-#[derive(Drop)]
-pub struct FiledWeek {
-    sheet: Sheet,
-}
+pub type FiledWeek = Week<HandedOver>;

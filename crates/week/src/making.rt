@@ -3,7 +3,7 @@ ghost use Rattle.std.specs.Prelude.{◌≡◌, [], IfOk};
 ghost use Rattle.plan.specs.Held.{held, nothing};
 ghost use Rattle.week.specs.Sheets.{plan_in, certificate_in};
 
-use crate::{FiledWeek, Sheet, Week};
+use crate::{FiledWeek, HandedOver, Open, Sheet, Week};
 use plan::Plan;
 use planner::certificate::Certificate;
 use planner::workspace::Workspace;
@@ -23,14 +23,17 @@ impl Week {
             certificate,
             workspace,
         };
-        Ok(Week { sheet })
+        Ok(Week { sheet, state: Open })
     }
 
     /// Hands the week over: plan and certificate stay, and it cannot be edited until it is reopened.
     pub fn hand_over(self) -> FiledWeek
         ensures { result.sheet ≡ self.sheet }
     {
-        FiledWeek { sheet: self.sheet }
+        Week {
+            sheet: self.sheet,
+            state: HandedOver,
+        }
     }
 }
 
@@ -39,6 +42,9 @@ impl FiledWeek {
     pub fn reopen(self) -> Week
         ensures { result.sheet ≡ self.sheet }
     {
-        Week { sheet: self.sheet }
+        Week {
+            sheet: self.sheet,
+            state: Open,
+        }
     }
 }

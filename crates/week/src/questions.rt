@@ -1,4 +1,4 @@
-//! What an open week tells: its plan, which answers the questions and is judged, and its certificate.
+//! What a week tells, open or handed over: its plan, which answers the questions and is judged, and its certificate.
 ghost use Rattle.std.specs.Prelude.{◌≡◌, length, OnErr, OnOk, nat_le};
 ghost use Rattle.refusal.specs.Refusals.{refusal_of, first_refusal};
 ghost use Rattle.plan.specs.Parts.{ranked, fits};
@@ -38,7 +38,7 @@ impl Sheet {
     }
 }
 
-impl Week {
+impl<State> Week<State> {
     /// The plan with its attendance, to be asked and judged.
     pub fn plan(&self) -> &Plan
         ensures { result.now ≡ self.now.sheet.plan }

@@ -16,8 +16,8 @@ fn write_over(numbers: &[Num], table: &mut [u16])
     requires { length numbers.now ≤ length table.old }
     ensures { table.new ≡ over numbers.now table.old }
 {
-    for i in 0..numbers.len() {
-        table[i] = u16::from(numbers[i]);
+    for (i, number) in numbers.iter().enumerate() {
+        table[i] = u16::from(*number);
     }
 }
 

@@ -21,7 +21,7 @@ pub struct Fault {
 fn narrow(number: u32) -> u16
     ensures { result ≡ min number 65535 }
 {
-    if number < 65535 { number as u16 } else { 65535 }
+    u16::try_from(number).unwrap_or(u16::MAX)
 }
 
 /// The priority that a line gives: two whole numbers, or refusal 6, in the ranges of the house kind,
@@ -30,10 +30,8 @@ fn priority_of(line: &[u8]) -> Result<House, Refusal>
     ensures answer { refusal_of result ≡ line_refusal (numbersOf 2 (words line.now)) }
     ensures value { IfOk result (λ house. (house.class, house.weeks) ≡ line_value (numbersOf 2 (words line.now))) }
 {
-    let Some(found) = numbers::<2>(line) else {
-        return Err(Refusal::EntryLine);
-    };
-    House::new(narrow(found[0]), narrow(found[1]))
+    let [class, weeks] = numbers::<2>(line).ok_or(Refusal::EntryLine)?;
+    House::new(narrow(class), narrow(weeks))
 }
 
 /// The list on standard input, or the fault of its first faulty line.
