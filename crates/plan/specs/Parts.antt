@@ -5,6 +5,7 @@ use Rattle.refusal.specs.Tables.{at}
 use Rattle.priority.specs.declared.ranking.Ranking.{Ranking}
 use Rattle.source.specs.Pairs.{Pairs, holds}
 use Rattle.matching.specs.Board.{Board}
+use Rattle.plan.specs.declared.parts.Parts.{Parts}
 use Rattle.plan.specs.Held.{Held, Sides}
 
 -- The priorities of a ranking, in their order.
@@ -34,6 +35,14 @@ board_of reaches pairs programmes slots attendance = record {
   allowed = holds pairs;
   locked = λ i s. false;
 }
+
+-- The parts handed in fit together, and with the plan.
+abbrev pub fit_with : {S P : Type 0} → (S → Pairs) → Parts S P → Held → Bool
+fit_with pairs parts plan = fits (pairs parts.source.now) (ranked parts.programmes.now) (ranked parts.slots.now) plan
+
+-- The board that the parts handed in stand for, with the plan's attendance.
+abbrev pub board_with : {S P : Type 0} (reaches : P → P → Bool) → (S → Pairs) → Parts S P → Held → Board reaches
+board_with reaches pairs parts plan = board_of reaches (pairs parts.source.now) (ranked parts.programmes.now) (ranked parts.slots.now) plan.attendance
 
 -- A question about the whole plan: 12 when the parts do not fit together.
 abbrev pub whole_refusals : Bool → List (Bool × ℕ)

@@ -13,6 +13,7 @@ mod counting;
 pub mod edits;
 pub mod filling;
 pub mod making;
+pub mod parts;
 pub mod questions;
 pub mod reading;
 mod tables;

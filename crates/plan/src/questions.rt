@@ -1,37 +1,21 @@
 //! The questions that a plan answers, handed the source and the rankings that it stands for.
 ghost use Rattle.std.specs.Prelude.{◌≡◌, ◌≤◌, length, IfOk};
 ghost use Rattle.refusal.specs.Refusals.{refusal_of, first_refusal};
-ghost use Rattle.matching.specs.Board.{slot_of as slot_in, programme_in as programme-at, tally as tally-of, digit as digit-of};
+ghost use Rattle.matching.specs.Board.{slot_of as slot_told, programme_in as programme_told, tally as tally_told, digit as digit_told};
 ghost use Rattle.matching.specs.Lists.{plan_of, number_or_none};
 ghost use Rattle.plan.specs.declared.Member.TheVariants.{Programme, Slot};
 ghost use Rattle.plan.specs.Held.{held, known};
 ghost use Rattle.plan.specs.Readings.{question, counted_of};
-ghost use Rattle.plan.specs.Parts.{ranked, parts_fit, fits as fit-together, board_of, whole_refusals, one_refusals};
+ghost use Rattle.plan.specs.Parts.{ranked, fit_with, board_with, whole_refusals, one_refusals};
 
 use crate::counting::{Reading, count_placed};
+use crate::parts::Parts;
 use crate::{Member, Plan};
 use priority::Priority;
-use priority::ranking::Ranking;
 use refusal::Refusal;
-use refusal::limits::{Num, SIDE};
+use refusal::limits::Num;
 use refusal::tables::entry;
 use source::PairSource;
-
-/// Whether the source has at most `SIDE` a side, and each ranking one priority for each that it counts.
-pub fn parts_fit<S: PairSource, P: Priority + Copy>(
-    source: &S,
-    programmes: &Ranking<P>,
-    slots: &Ranking<P>,
-) -> bool
-    ensures { result ≡ parts_fit (S.PairSource.pairs source.now) (ranked programmes.now) (ranked slots.now) }
-{
-    let programme_count = source.programmes() as usize;
-    let slot_count = source.slots() as usize;
-    programme_count <= SIDE
-        && slot_count <= SIDE
-        && programmes.len() == programme_count
-        && slots.len() == slot_count
-}
 
 /// The number, or none for 0.
 fn number_or_none(number: Num) -> Option<Num>
@@ -42,32 +26,25 @@ fn number_or_none(number: Num) -> Option<Num>
 
 impl Plan {
     /// Whether source and rankings fit together, and the plan has the source's counts.
-    pub fn fits<S: PairSource, P: Priority + Copy>(
-        &self,
-        source: &S,
-        programmes: &Ranking<P>,
-        slots: &Ranking<P>,
-    ) -> bool
-        ensures { result ≡ fit-together (S.PairSource.pairs source.now) (ranked programmes.now) (ranked slots.now) (held self.now) }
+    pub fn fits<S: PairSource, P: Priority + Copy>(&self, parts: &Parts<S, P>) -> bool
+        ensures { result ≡ fit_with S.PairSource.pairs parts.now (held self.now) }
     {
-        parts_fit(source, programmes, slots)
-            && self.slot_of.len() == source.programmes() as usize
-            && self.programme_in.len() == source.slots() as usize
+        parts.fit()
+            && self.slot_of.len() == parts.source.programmes() as usize
+            && self.programme_in.len() == parts.source.slots() as usize
     }
 
     /// The slot in which the programme runs, or none. Refuses 12 where the parts do not fit together,
     /// then 10 where there is no such programme.
     pub fn slot_of<S: PairSource, P: Priority + Copy>(
         &self,
-        source: &S,
-        programmes: &Ranking<P>,
-        slots: &Ranking<P>,
+        parts: &Parts<S, P>,
         programme: Num,
     ) -> Result<Option<Num>, Refusal>
-        ensures answer { refusal_of result ≡ first_refusal (one_refusals (fit-together (S.PairSource.pairs source.now) (ranked programmes.now) (ranked slots.now) (held self.now)) (known (held self.now) (Programme programme))) }
-        ensures told { IfOk result (λ slot. slot ≡ slot_in (board_of P.Priority.reaches (S.PairSource.pairs source.now) (ranked programmes.now) (ranked slots.now) (held self.now).attendance) (plan_of (held self.now).slot_of) programme) }
+        ensures answer { refusal_of result ≡ first_refusal (one_refusals (fit_with S.PairSource.pairs parts.now (held self.now)) (known (held self.now) (Programme programme))) }
+        ensures told { IfOk result (λ slot. slot ≡ slot_told (board_with P.Priority.reaches S.PairSource.pairs parts.now (held self.now)) (plan_of (held self.now).slot_of) programme) }
     {
-        if !self.fits(source, programmes, slots) {
+        if !self.fits(parts) {
             return Err(Refusal::Mismatch);
         }
         if !self.has(Member::Programme(programme)) {
@@ -80,15 +57,13 @@ impl Plan {
     /// then 10 where there is no such slot.
     pub fn programme_in<S: PairSource, P: Priority + Copy>(
         &self,
-        source: &S,
-        programmes: &Ranking<P>,
-        slots: &Ranking<P>,
+        parts: &Parts<S, P>,
         slot: Num,
     ) -> Result<Option<Num>, Refusal>
-        ensures answer { refusal_of result ≡ first_refusal (one_refusals (fit-together (S.PairSource.pairs source.now) (ranked programmes.now) (ranked slots.now) (held self.now)) (known (held self.now) (Slot slot))) }
-        ensures told { IfOk result (λ programme. programme ≡ programme-at (board_of P.Priority.reaches (S.PairSource.pairs source.now) (ranked programmes.now) (ranked slots.now) (held self.now).attendance) (plan_of (held self.now).slot_of) slot) }
+        ensures answer { refusal_of result ≡ first_refusal (one_refusals (fit_with S.PairSource.pairs parts.now (held self.now)) (known (held self.now) (Slot slot))) }
+        ensures told { IfOk result (λ programme. programme ≡ programme_told (board_with P.Priority.reaches S.PairSource.pairs parts.now (held self.now)) (plan_of (held self.now).slot_of) slot) }
     {
-        if !self.fits(source, programmes, slots) {
+        if !self.fits(parts) {
             return Err(Refusal::Mismatch);
         }
         if !self.has(Member::Slot(slot)) {
@@ -98,19 +73,20 @@ impl Plan {
     }
 
     /// The programmes placed, and the slots filled, whose priority is read so against that one.
-    fn count_sides<P: Priority + Copy>(
+    fn count_sides<S, P: Priority + Copy>(
         &self,
         reading: Reading,
-        programmes: &Ranking<P>,
-        slots: &Ranking<P>,
+        parts: &Parts<S, P>,
         priority: &P,
     ) -> (usize, usize)
-        ensures most { (result.0 ≤ length (ranked programmes.now)) × (result.1 ≤ length (ranked slots.now)) }
-        ensures placed { result.0 ≡ counted_of (question P.Priority.reaches reading) (ranked programmes.now) (held self.now).slot_of priority.now }
-        ensures filled { result.1 ≡ counted_of (question P.Priority.reaches reading) (ranked slots.now) (held self.now).programme_in priority.now }
+        ensures most { (result.0 ≤ length (ranked parts.now.programmes.now)) × (result.1 ≤ length (ranked parts.now.slots.now)) }
+        ensures placed { result.0 ≡ counted_of (question P.Priority.reaches reading) (ranked parts.now.programmes.now) (held self.now).slot_of priority.now }
+        ensures filled { result.1 ≡ counted_of (question P.Priority.reaches reading) (ranked parts.now.slots.now) (held self.now).programme_in priority.now }
     {
-        let placed = count_placed(reading, programmes.as_slice(), &self.slot_of, priority);
-        let filled = count_placed(reading, slots.as_slice(), &self.programme_in, priority);
+        let programmes = parts.programmes.as_slice();
+        let slots = parts.slots.as_slice();
+        let placed = count_placed(reading, programmes, &self.slot_of, priority);
+        let filled = count_placed(reading, slots, &self.programme_in, priority);
         (placed, filled)
     }
 
@@ -118,36 +94,32 @@ impl Plan {
     /// parts do not fit together.
     pub fn tally<S: PairSource, P: Priority + Copy>(
         &self,
-        source: &S,
-        programmes: &Ranking<P>,
-        slots: &Ranking<P>,
+        parts: &Parts<S, P>,
         priority: &P,
     ) -> Result<(usize, usize), Refusal>
-        ensures answer { refusal_of result ≡ first_refusal (whole_refusals (fit-together (S.PairSource.pairs source.now) (ranked programmes.now) (ranked slots.now) (held self.now))) }
-        ensures told { IfOk result (λ counts. counts ≡ tally-of (board_of P.Priority.reaches (S.PairSource.pairs source.now) (ranked programmes.now) (ranked slots.now) (held self.now).attendance) (plan_of (held self.now).slot_of) priority.now) }
+        ensures answer { refusal_of result ≡ first_refusal (whole_refusals (fit_with S.PairSource.pairs parts.now (held self.now))) }
+        ensures told { IfOk result (λ counts. counts ≡ tally_told (board_with P.Priority.reaches S.PairSource.pairs parts.now (held self.now)) (plan_of (held self.now).slot_of) priority.now) }
     {
-        if !self.fits(source, programmes, slots) {
+        if !self.fits(parts) {
             return Err(Refusal::Mismatch);
         }
-        Ok(self.count_sides(Reading::AtLeast, programmes, slots, priority))
+        Ok(self.count_sides(Reading::AtLeast, parts, priority))
     }
 
     /// The score digit: the programmes placed and the slots filled whose priority is level with that
     /// one. Refuses 12 where the parts do not fit together.
     pub fn digit<S: PairSource, P: Priority + Copy>(
         &self,
-        source: &S,
-        programmes: &Ranking<P>,
-        slots: &Ranking<P>,
+        parts: &Parts<S, P>,
         priority: &P,
     ) -> Result<usize, Refusal>
-        ensures answer { refusal_of result ≡ first_refusal (whole_refusals (fit-together (S.PairSource.pairs source.now) (ranked programmes.now) (ranked slots.now) (held self.now))) }
-        ensures told { IfOk result (λ score. score ≡ digit-of (board_of P.Priority.reaches (S.PairSource.pairs source.now) (ranked programmes.now) (ranked slots.now) (held self.now).attendance) (plan_of (held self.now).slot_of) priority.now) }
+        ensures answer { refusal_of result ≡ first_refusal (whole_refusals (fit_with S.PairSource.pairs parts.now (held self.now))) }
+        ensures told { IfOk result (λ score. score ≡ digit_told (board_with P.Priority.reaches S.PairSource.pairs parts.now (held self.now)) (plan_of (held self.now).slot_of) priority.now) }
     {
-        if !self.fits(source, programmes, slots) {
+        if !self.fits(parts) {
             return Err(Refusal::Mismatch);
         }
-        let (placed, filled) = self.count_sides(Reading::Level, programmes, slots, priority);
+        let (placed, filled) = self.count_sides(Reading::Level, parts, priority);
         Ok(placed + filled)
     }
 }

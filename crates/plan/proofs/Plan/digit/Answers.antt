@@ -9,5 +9,5 @@ returns g c =
     let ok = c.if-not-fits.ensures in
     record {
       answer = accepted_whole _ ok;
-      told = tell_digit (g.S.PairSource.pairs c.args.source.now) (ranked c.args.programmes.now) (ranked c.args.slots.now) (held v) ok g.P.Priority.reaches v.there v.back c.args.priority.now _ c.count_sides-placed.ensures.placed c.count_sides-placed.ensures.filled;
+      told = tell_digit (g.S.PairSource.pairs c.args.parts.now.source.now) (ranked c.args.parts.now.programmes.now) (ranked c.args.parts.now.slots.now) (held v) ok g.P.Priority.reaches v.there v.back c.args.priority.now _ c.count_sides-placed.ensures.placed c.count_sides-placed.ensures.filled;
     }

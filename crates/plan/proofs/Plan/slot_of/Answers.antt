@@ -12,5 +12,5 @@ returns g c =
     let read = c.entry.ensures ∙ ap (λ (l : List ℕ). at 0 l c.args.programme) c.deref.ensures.value in
     record {
       answer = accepted_one _ _ ok c.if-not-has.ensures;
-      told = tell_slot (g.S.PairSource.pairs c.args.source.now) (ranked c.args.programmes.now) (ranked c.args.slots.now) (held v) ok g.P.Priority.reaches v.there v.back c.args.programme _ _ read c.number_or_none.ensures;
+      told = tell_slot (g.S.PairSource.pairs c.args.parts.now.source.now) (ranked c.args.parts.now.programmes.now) (ranked c.args.parts.now.slots.now) (held v) ok g.P.Priority.reaches v.there v.back c.args.programme _ _ read c.number_or_none.ensures;
     }
