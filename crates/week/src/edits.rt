@@ -3,13 +3,14 @@ ghost use Rattle.std.specs.Prelude.{◌≡◌, true, false, OnErr, OnOk};
 ghost use Rattle.refusal.specs.Refusals.{refusal_of, first_refusal};
 ghost use Rattle.source.specs.Pairs.{changed};
 ghost use Rattle.plan.specs.Held.{known, presence, attending};
-ghost use Rattle.plan.specs.Parts.{ranked, fits, one_refusals};
-ghost use Rattle.week.specs.Planned.{Planned};
+ghost use Rattle.plan.specs.Parts.{ranked, fits, fit_with, one_refusals};
+ghost use Rattle.week.specs.Planned.{Planned, PlannedFor};
 ghost use Rattle.week.specs.Calls.{withdraw_refusals, restore_refusals, week_bar_refusals, week_lift_refusals};
 ghost use Rattle.week.specs.Sheets.{plan_in, certificate_in, programmes_with, slots_with};
 
 use crate::Week;
 use plan::Member;
+use plan::parts::Parts;
 use priority::Priority;
 use priority::ranking::Ranking;
 use refusal::Refusal;
@@ -21,27 +22,19 @@ impl Week {
     /// there is no such one, and 14 where it is absent already.
     pub fn withdraw<S: PairSource, P: Priority + Copy>(
         &mut self,
-        source: &S,
-        programmes: &Ranking<P>,
-        slots: &Ranking<P>,
+        parts: &Parts<S, P>,
         member: Member,
     ) -> Result<(), Refusal>
-        ensures answer { refusal_of result ≡ first_refusal (withdraw_refusals (fits (S.PairSource.pairs source.now) (ranked programmes.now) (ranked slots.now) (plan_in self.old.sheet)) (known (plan_in self.old.sheet) member) (presence (plan_in self.old.sheet) member)) }
+        ensures answer { refusal_of result ≡ first_refusal (withdraw_refusals (fit_with S.PairSource.pairs parts.now (plan_in self.old.sheet)) (known (plan_in self.old.sheet) member) (presence (plan_in self.old.sheet) member)) }
         ensures kept { OnErr result (self.new ≡ self.old) }
         ensures attendance { OnOk result ((plan_in self.new.sheet).attendance ≡ attending (plan_in self.old.sheet).attendance member false) }
-        ensures planned { OnOk result (Planned P.Priority.reaches (S.PairSource.pairs source.now) (ranked programmes.now) (ranked slots.now) (plan_in self.new.sheet) (certificate_in self.new.sheet)) }
+        ensures planned { OnOk result (PlannedFor P.Priority.reaches S.PairSource.pairs parts.now self.new.sheet) }
     {
-        if !self.sheet.plan.fits(source, programmes, slots) {
-            return Err(Refusal::Mismatch);
-        }
-        if !self.sheet.plan.has(member) {
-            return Err(Refusal::UnknownNumber);
-        }
-        if !self.sheet.plan.is_present(member) {
+        if !self.sheet.presence(parts, member)? {
             return Err(Refusal::AlreadyAbsent);
         }
         self.sheet.plan.set_present(member, false)?;
-        self.sheet.renew(source, programmes, slots);
+        self.sheet.renew(parts);
         Ok(())
     }
 
@@ -49,27 +42,19 @@ impl Week {
     /// there is no such one, and 15 where it is present already.
     pub fn restore<S: PairSource, P: Priority + Copy>(
         &mut self,
-        source: &S,
-        programmes: &Ranking<P>,
-        slots: &Ranking<P>,
+        parts: &Parts<S, P>,
         member: Member,
     ) -> Result<(), Refusal>
-        ensures answer { refusal_of result ≡ first_refusal (restore_refusals (fits (S.PairSource.pairs source.now) (ranked programmes.now) (ranked slots.now) (plan_in self.old.sheet)) (known (plan_in self.old.sheet) member) (presence (plan_in self.old.sheet) member)) }
+        ensures answer { refusal_of result ≡ first_refusal (restore_refusals (fit_with S.PairSource.pairs parts.now (plan_in self.old.sheet)) (known (plan_in self.old.sheet) member) (presence (plan_in self.old.sheet) member)) }
         ensures kept { OnErr result (self.new ≡ self.old) }
         ensures attendance { OnOk result ((plan_in self.new.sheet).attendance ≡ attending (plan_in self.old.sheet).attendance member true) }
-        ensures planned { OnOk result (Planned P.Priority.reaches (S.PairSource.pairs source.now) (ranked programmes.now) (ranked slots.now) (plan_in self.new.sheet) (certificate_in self.new.sheet)) }
+        ensures planned { OnOk result (PlannedFor P.Priority.reaches S.PairSource.pairs parts.now self.new.sheet) }
     {
-        if !self.sheet.plan.fits(source, programmes, slots) {
-            return Err(Refusal::Mismatch);
-        }
-        if !self.sheet.plan.has(member) {
-            return Err(Refusal::UnknownNumber);
-        }
-        if self.sheet.plan.is_present(member) {
+        if self.sheet.presence(parts, member)? {
             return Err(Refusal::AlreadyPresent);
         }
         self.sheet.plan.set_present(member, true)?;
-        self.sheet.renew(source, programmes, slots);
+        self.sheet.renew(parts);
         Ok(())
     }
 
@@ -90,11 +75,11 @@ impl Week {
         ensures attendance { OnOk result ((plan_in self.new.sheet).attendance ≡ (plan_in self.old.sheet).attendance) }
         ensures planned { OnOk result (Planned P.Priority.reaches (S.PairSource.pairs source.new) (ranked programmes.now) (ranked slots.now) (plan_in self.new.sheet) (certificate_in self.new.sheet)) }
     {
-        if !self.sheet.plan.fits(&*source, programmes, slots) {
+        if !self.sheet.plan.fits(&Parts { source: &*source, programmes, slots }) {
             return Err(Refusal::Mismatch);
         }
         source.bar(programme, slot)?;
-        self.sheet.renew(&*source, programmes, slots);
+        self.sheet.renew(&Parts { source: &*source, programmes, slots });
         Ok(())
     }
 
@@ -115,11 +100,11 @@ impl Week {
         ensures attendance { OnOk result ((plan_in self.new.sheet).attendance ≡ (plan_in self.old.sheet).attendance) }
         ensures planned { OnOk result (Planned P.Priority.reaches (S.PairSource.pairs source.new) (ranked programmes.now) (ranked slots.now) (plan_in self.new.sheet) (certificate_in self.new.sheet)) }
     {
-        if !self.sheet.plan.fits(&*source, programmes, slots) {
+        if !self.sheet.plan.fits(&Parts { source: &*source, programmes, slots }) {
             return Err(Refusal::Mismatch);
         }
         source.lift(programme, slot)?;
-        self.sheet.renew(&*source, programmes, slots);
+        self.sheet.renew(&Parts { source: &*source, programmes, slots });
         Ok(())
     }
 
@@ -141,7 +126,8 @@ impl Week {
         ensures attendance { OnOk result ((plan_in self.new.sheet).attendance ≡ (plan_in self.old.sheet).attendance) }
         ensures planned { OnOk result (Planned P.Priority.reaches (S.PairSource.pairs source.now) (ranked programmes.new) (ranked slots.new) (plan_in self.new.sheet) (certificate_in self.new.sheet)) }
     {
-        if !self.sheet.plan.fits(source, programmes, slots) {
+        let parts = Parts { source, programmes: &*programmes, slots: &*slots };
+        if !self.sheet.plan.fits(&parts) {
             return Err(Refusal::Mismatch);
         }
         if !self.sheet.plan.has(member) {
@@ -151,7 +137,7 @@ impl Week {
             Member::Programme(number) => programmes.set(number as usize, priority)?,
             Member::Slot(number) => slots.set(number as usize, priority)?,
         }
-        self.sheet.renew(source, programmes, slots);
+        self.sheet.renew(&Parts { source, programmes: &*programmes, slots: &*slots });
         Ok(())
     }
 }

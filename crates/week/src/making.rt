@@ -9,6 +9,18 @@ use planner::certificate::Certificate;
 use planner::workspace::Workspace;
 use std::alloc::{AllocError, Global};
 
+impl<State: Copy> Week<State> {
+    /// The same week in another state.
+    fn into_state<To>(self, state: To) -> Week<To>
+        ensures { result.sheet ≡ self.sheet }
+    {
+        Week {
+            sheet: self.sheet,
+            state,
+        }
+    }
+}
+
 impl Week {
     /// A week of no programmes and no slots, with room for `SIDE` a side.
     pub fn new(heap: Global) -> Result<Week, AllocError>
@@ -30,10 +42,7 @@ impl Week {
     pub fn hand_over(self) -> FiledWeek
         ensures { result.sheet ≡ self.sheet }
     {
-        Week {
-            sheet: self.sheet,
-            state: HandedOver,
-        }
+        self.into_state(HandedOver)
     }
 }
 
@@ -42,9 +51,6 @@ impl FiledWeek {
     pub fn reopen(self) -> Week
         ensures { result.sheet ≡ self.sheet }
     {
-        Week {
-            sheet: self.sheet,
-            state: Open,
-        }
+        self.into_state(Open)
     }
 }

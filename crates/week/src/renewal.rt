@@ -1,13 +1,13 @@
 //! What every call of a week comes down to: planning anew, and telling the certificate.
 ghost use Rattle.std.specs.Prelude.{◌≡◌, ◌+◌, ◌≤◌, true, length};
-ghost use Rattle.plan.specs.Parts.{ranked, fits};
-ghost use Rattle.week.specs.Planned.{Planned};
+ghost use Rattle.plan.specs.Parts.{fit_with};
+ghost use Rattle.week.specs.Planned.{PlannedFor};
 ghost use Rattle.week.specs.Sheets.{plan_in, certificate_in, over};
 
 use crate::Sheet;
+use plan::parts::Parts;
 use planner::settle::settle;
 use priority::Priority;
-use priority::ranking::Ranking;
 use refusal::limits::Num;
 use source::PairSource;
 
@@ -25,18 +25,14 @@ impl Sheet {
     /// Plans anew for parts that fit together.
     pub(crate) fn renew<S: PairSource, P: Priority + Copy>(
         &mut self,
-        source: &S,
-        programmes: &Ranking<P>,
-        slots: &Ranking<P>,
+        parts: &Parts<S, P>,
     )
-        requires { fits (S.PairSource.pairs source.now) (ranked programmes.now) (ranked slots.now) (plan_in self.old) ≡ true }
+        requires { fit_with S.PairSource.pairs parts.now (plan_in self.old) ≡ true }
         ensures attendance { (plan_in self.new).attendance ≡ (plan_in self.old).attendance }
-        ensures planned { Planned P.Priority.reaches (S.PairSource.pairs source.now) (ranked programmes.now) (ranked slots.now) (plan_in self.new) (certificate_in self.new) }
+        ensures planned { PlannedFor P.Priority.reaches S.PairSource.pairs parts.now self.new }
     {
         let _ = settle(
-            source,
-            programmes,
-            slots,
+            parts,
             &mut self.plan,
             &mut self.certificate,
             &mut self.workspace,
