@@ -9,16 +9,16 @@ use source::PairSource;
 
 /// The parts of a week that stay with the caller.
 #[derive(Drop)]
-pub struct Parts<'a, S, P> {
+pub struct Parts<'a, 'b, S, P> {
     /// The pairs that are allowed.
     pub source: &'a S,
     /// The priorities of the programmes.
-    pub programmes: &'a Ranking<'a, P>,
+    pub programmes: &'b Ranking<'b, P>,
     /// The priorities of the slots.
-    pub slots: &'a Ranking<'a, P>,
+    pub slots: &'b Ranking<'b, P>,
 }
 
-impl<'a, S: PairSource, P: Priority + Copy> Parts<'a, S, P> {
+impl<'a, 'b, S: PairSource, P: Priority + Copy> Parts<'a, 'b, S, P> {
     /// Whether the source has at most `SIDE` a side, and each ranking one priority for each that it counts.
     pub fn fit(&self) -> bool
         ensures { result ≡ parts_fit (S.PairSource.pairs self.now.source.now) (ranked self.now.programmes.now) (ranked self.now.slots.now) }

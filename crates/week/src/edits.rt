@@ -60,11 +60,11 @@ impl Week {
 
     /// Takes a pair out of the source's allowed ones. Refuses 12 where the parts do not fit together,
     /// then as the source does: 10, and 16 where the pair is not allowed.
-    pub fn bar<S: OpenSource, P: Priority + Copy>(
+    pub fn bar<'a, S: OpenSource, P: Priority + Copy>(
         &mut self,
         source: &mut S,
-        programmes: &Ranking<P>,
-        slots: &Ranking<P>,
+        programmes: &'a Ranking<'a, P>,
+        slots: &'a Ranking<'a, P>,
         programme: Num,
         slot: Num,
     ) -> Result<(), Refusal>
@@ -75,21 +75,29 @@ impl Week {
         ensures attendance { OnOk result ((plan_in self.new.sheet).attendance ≡ (plan_in self.old.sheet).attendance) }
         ensures planned { OnOk result (Planned P.Priority.reaches (S.PairSource.pairs source.new) (ranked programmes.now) (ranked slots.now) (plan_in self.new.sheet) (certificate_in self.new.sheet)) }
     {
-        if !self.sheet.plan.fits(&Parts { source: &*source, programmes, slots }) {
+        if !self.sheet.plan.fits(&Parts {
+            source: &*source,
+            programmes,
+            slots,
+        }) {
             return Err(Refusal::Mismatch);
         }
         source.bar(programme, slot)?;
-        self.sheet.renew(&Parts { source: &*source, programmes, slots });
+        self.sheet.renew(&Parts {
+            source: &*source,
+            programmes,
+            slots,
+        });
         Ok(())
     }
 
     /// Puts a pair into the source's allowed ones. Refuses 12 where the parts do not fit together, then
     /// as the source does: 10, 17 where the pair is allowed already, and 18 where it is not possible.
-    pub fn lift<S: OpenSource, P: Priority + Copy>(
+    pub fn lift<'a, S: OpenSource, P: Priority + Copy>(
         &mut self,
         source: &mut S,
-        programmes: &Ranking<P>,
-        slots: &Ranking<P>,
+        programmes: &'a Ranking<'a, P>,
+        slots: &'a Ranking<'a, P>,
         programme: Num,
         slot: Num,
     ) -> Result<(), Refusal>
@@ -100,11 +108,19 @@ impl Week {
         ensures attendance { OnOk result ((plan_in self.new.sheet).attendance ≡ (plan_in self.old.sheet).attendance) }
         ensures planned { OnOk result (Planned P.Priority.reaches (S.PairSource.pairs source.new) (ranked programmes.now) (ranked slots.now) (plan_in self.new.sheet) (certificate_in self.new.sheet)) }
     {
-        if !self.sheet.plan.fits(&Parts { source: &*source, programmes, slots }) {
+        if !self.sheet.plan.fits(&Parts {
+            source: &*source,
+            programmes,
+            slots,
+        }) {
             return Err(Refusal::Mismatch);
         }
         source.lift(programme, slot)?;
-        self.sheet.renew(&Parts { source: &*source, programmes, slots });
+        self.sheet.renew(&Parts {
+            source: &*source,
+            programmes,
+            slots,
+        });
         Ok(())
     }
 
@@ -126,7 +142,11 @@ impl Week {
         ensures attendance { OnOk result ((plan_in self.new.sheet).attendance ≡ (plan_in self.old.sheet).attendance) }
         ensures planned { OnOk result (Planned P.Priority.reaches (S.PairSource.pairs source.now) (ranked programmes.new) (ranked slots.new) (plan_in self.new.sheet) (certificate_in self.new.sheet)) }
     {
-        let parts = Parts { source, programmes: &*programmes, slots: &*slots };
+        let parts = Parts {
+            source,
+            programmes: &*programmes,
+            slots: &*slots,
+        };
         if !self.sheet.plan.fits(&parts) {
             return Err(Refusal::Mismatch);
         }
@@ -137,7 +157,11 @@ impl Week {
             Member::Programme(number) => programmes.set(number as usize, priority)?,
             Member::Slot(number) => slots.set(number as usize, priority)?,
         }
-        self.sheet.renew(&Parts { source, programmes: &*programmes, slots: &*slots });
+        self.sheet.renew(&Parts {
+            source,
+            programmes: &*programmes,
+            slots: &*slots,
+        });
         Ok(())
     }
 }

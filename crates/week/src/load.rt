@@ -27,9 +27,10 @@ impl Week {
         if !parts.fit() {
             return Err(Refusal::Mismatch);
         }
-        self.sheet
-            .plan
-            .reset(parts.source.programmes() as usize, parts.source.slots() as usize)?;
+        self.sheet.plan.reset(
+            parts.source.programmes() as usize,
+            parts.source.slots() as usize,
+        )?;
         self.sheet.renew(parts);
         Ok(())
     }

@@ -82,7 +82,6 @@ impl<State> Week<State> {
         ensures kept { OnErr result (table.new ≡ table.old) }
         ensures told { OnOk result (table.new ≡ over (certificate_in self.now.sheet) table.old) }
     {
-        self.sheet
-            .tell_certificate(parts, table)
+        self.sheet.tell_certificate(parts, table)
     }
 }

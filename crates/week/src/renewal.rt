@@ -23,10 +23,7 @@ fn write_over(numbers: &[Num], table: &mut [u16])
 
 impl Sheet {
     /// Plans anew for parts that fit together.
-    pub(crate) fn renew<S: PairSource, P: Priority + Copy>(
-        &mut self,
-        parts: &Parts<S, P>,
-    )
+    pub(crate) fn renew<S: PairSource, P: Priority + Copy>(&mut self, parts: &Parts<S, P>)
         requires { fit_with S.PairSource.pairs parts.now (plan_in self.old) ≡ true }
         ensures attendance { (plan_in self.new).attendance ≡ (plan_in self.old).attendance }
         ensures planned { PlannedFor P.Priority.reaches S.PairSource.pairs parts.now self.new }
