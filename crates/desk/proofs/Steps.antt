@@ -6,12 +6,11 @@ use Rattle.week.specs.declared.Sheet.{Sheet}
 use Rattle.week.specs.Planned.{Planned}
 use Rattle.week.specs.Sheets.{plan_in, certificate_in}
 use Rattle.desk.specs.declared.calls.Call.{Call}
-use Rattle.desk.specs.declared.calls.Answer.{Answer}
 use Rattle.desk.specs.declared.desks.Desk.{Desk}
 use Rattle.loaded.specs.Loaded.{loaded_pairs, loaded_possible}
 use Rattle.desk.specs.declared.standing.Standing.{Standing}
 use Rattle.desk.specs.Ledger.{Ledger, account}
-use Rattle.desk.specs.Told.{Told, done, told, outcome, is_done, or_refused}
+use Rattle.desk.specs.Told.{Served, Told, done, told, outcome, is_done, or_refused}
 use Rattle.desk.specs.Moments.{Moment, Meaning, answer, entered, open_after, replans}
 use Rattle.desk.specs.Runs.{Stands}
 use Rattle.desk.specs.Desks.{sheet_of, is_open, moment_of, Step}
@@ -47,7 +46,7 @@ module _ {S P E : Type 0} (M : Meaning S P E) (d e : Desk S P) where
         passing = p.passing;
       }
 
-  module _ (call : Call S P E) (a : Answer) where
+  module _ (call : Call S P E) (a : Served) where
     -- a call that enters nothing and keeps plan and certificate
     pub still_step : told a ≡ answer M call m → n.ledger ≡ m.ledger → cond (is_done (told a)) (entered M call m.ledger) m.ledger ≡ m.ledger → n.opened ≡ open_after call m.opened → n.plan ≡ m.plan → n.certificate ≡ m.certificate → Step M d call a e
     still_step told-right ledger entry opened plan certificate =
@@ -85,7 +84,7 @@ module _ {S P E : Type 0} (M : Meaning S P E) (d e : Desk S P) where
         still_step right kept.1 (ap (λ (t : Told). cond (is_done t) (entered M call m.ledger) m.ledger) says) opened (ap (λ (s : Sheet). (plan_in s).slot_of) kept.0) (ap certificate_in kept.0)
 
 -- the week changes hands, and its sheet stays
-pub standing_step : {S P E : Type 0} (M : Meaning S P E) (d : Desk S P) (s : Standing) (call : Call S P E) (a : Answer)
+pub standing_step : {S P E : Type 0} (M : Meaning S P E) (d : Desk S P) (s : Standing) (call : Call S P E) (a : Served)
     → told a ≡ answer M call (moment_of M d) → entered M call (moment_of M d).ledger ≡ (moment_of M d).ledger → is_open s ≡ open_after call (is_open d.standing) → sheet_of s ≡ sheet_of d.standing
     → Step M d call a (record { standing = s; source = d.source; programmes = d.programmes; slots = d.slots })
 standing_step {S} {P} M d s call a right entry opened same =

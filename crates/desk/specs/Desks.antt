@@ -8,8 +8,7 @@ use Rattle.desk.specs.declared.desks.Desk.{Desk}
 use Rattle.loaded.specs.Loaded.{loaded_pairs, loaded_possible}
 use Rattle.desk.specs.Ledger.{account}
 use Rattle.desk.specs.declared.calls.Call.{Call}
-use Rattle.desk.specs.declared.calls.Answer.{Answer}
-use Rattle.desk.specs.Told.{told}
+use Rattle.desk.specs.Told.{Served, told}
 use Rattle.desk.specs.Moments.{Moment, Meaning}
 use Rattle.desk.specs.Runs.{Stands, Follows}
 
@@ -33,6 +32,6 @@ moment_of M d = record {
 }
 
 -- A desk works a call: its week goes from one moment to the next as the call says, and stands if it stood.
-pub record Step {S P E : Type 0} (M : Meaning S P E) (d : Desk S P) (call : Call S P E) (a : Answer) (e : Desk S P) : Type 0 where
+pub record Step {S P E : Type 0} (M : Meaning S P E) (d : Desk S P) (call : Call S P E) (a : Served) (e : Desk S P) : Type 0 where
   pub follows : Follows M (moment_of M d) call (told a) (moment_of M e)
   pub stands : Stands M.reaches (moment_of M d) → Stands M.reaches (moment_of M e)

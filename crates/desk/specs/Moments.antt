@@ -12,11 +12,7 @@ use Rattle.desk.specs.declared.calls.Question.{Question}
 use Rattle.desk.specs.declared.calls.Question.TheVariants.{SlotOf, ProgrammeIn, Digit, Tally, Certificate, Judge, JudgeStored}
 use Rattle.desk.specs.declared.calls.Call.{Call}
 use Rattle.desk.specs.declared.calls.Call.TheVariants.{Load, Edit, Ask, Write, HandOver, Reopen}
-use Rattle.desk.specs.declared.calls.Wanted.{Wanted}
-use Rattle.desk.specs.declared.calls.Wanted.TheVariants as wanted
-use Rattle.pages.specs.declared.table_pages.Columns.TheVariants.{One}
-use Rattle.page_writer.specs.PlanPage.{plan_page}
-use Rattle.page_writer.specs.TablePage.{table_page}
+use Rattle.filing.specs.Filed.{page_of}
 use Rattle.desk.specs.Edits.{Rules}
 use Rattle.desk.specs.Ledger.{Ledger, new_ledger, board, in_order, counted, loaded}
 use Rattle.desk.specs.Told.{Told, done, slot, programme, digit, tally, certificate, verdict, page, not_offered, or_refused, is_done}
@@ -53,11 +49,6 @@ module _ {P : Type 0} (reaches : P → P → Bool) (l : Ledger P) (plan stored :
   answer_question JudgeStored = judged stored
 
 -- ---- what all calls are answered, and what they change
--- The page wanted, of a plan and its certificate.
-abbrev pub page_of : Wanted → ℕ → List ℕ → List ℕ → List ℕ
-page_of wanted.Plan slots plan entries = plan_page slots plan
-page_of wanted.Certificate slots plan entries = table_page One entries
-
 -- What the words of a call mean: the pairs of a source, which priority is at least as high, and the rules of the edits.
 pub record Meaning (S P E : Type 0) : Type 0 where
   pub pairs : S → Pairs

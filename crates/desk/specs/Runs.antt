@@ -4,9 +4,8 @@ use Rattle.matching.specs.Board.{Best}
 use Rattle.matching.specs.Check.{passes}
 use Rattle.matching.specs.Lists.{plan_of, certificate_of}
 use Rattle.desk.specs.declared.calls.Call.{Call}
-use Rattle.desk.specs.declared.calls.Answer.{Answer}
 use Rattle.desk.specs.Ledger.{board, in_order}
-use Rattle.desk.specs.Told.{Told, told, is_done}
+use Rattle.desk.specs.Told.{Served, Told, told, is_done}
 use Rattle.desk.specs.Moments.{Moment, Meaning, new_moment, answer, enter, open_after, replans}
 
 -- A week stands at a moment when:
@@ -33,13 +32,13 @@ module _ {S P E : Type 0} (M : Meaning S P E) where
     pub kept : (replans call && is_done t) ≡ false → (n.plan ≡ m.plan) × (n.certificate ≡ m.certificate)
 
   -- A list of calls is worked, each with its answer, and the week stands after each of them.
-  abbrev pub Worked : Moment P → List (Call S P E) → List Answer → Type 0
+  abbrev pub Worked : Moment P → List (Call S P E) → List Served → Type 0
   Worked m [] [] = Unit {0}
   Worked m [] (a ∷ answers) = ⊥
   Worked m (call ∷ calls) [] = ⊥
   Worked m (call ∷ calls) (a ∷ answers) = (next : Moment P) × Follows m call (told a) next × Stands M.reaches next × Worked next calls answers
 
   -- A run: the new week stands, and the list is worked from it.
-  pub record Ran (calls : List (Call S P E)) (answers : List Answer) : Type 0 where
+  pub record Ran (calls : List (Call S P E)) (answers : List Served) : Type 0 where
     pub new : Stands M.reaches new_moment
     pub worked : Worked new_moment calls answers

@@ -5,6 +5,8 @@ use Rattle.refusal.specs.Refusals.{number_of, first_refusal}
 use Rattle.page_writer.specs.Texts.{text_of}
 use Rattle.desk.specs.declared.calls.Answer.{Answer}
 use Rattle.desk.specs.declared.calls.Answer.TheVariants as code
+use Rattle.desk.specs.declared.calls.Unserved.{Unserved}
+use Rattle.desk.specs.declared.calls.Unserved.TheVariants as unserved
 
 -- The cases of an answer.
 pub data Told : Type 0 where
@@ -19,18 +21,22 @@ pub data Told : Type 0 where
   refused : ℕ → Told
   not_offered : Told
 
+-- What a call comes to in the code.
+abbrev pub Served : Type 0
+Served = Result Answer Unserved
+
 -- What the code's answer says: the number of a refusal, the entries of a table.
-abbrev pub told : Answer → Told
-told code.Done = done
-told (code.Slot s) = slot s
-told (code.Programme i) = programme i
-told (code.Digit n) = digit n
-told (code.Tally counts) = tally counts
-told (code.Certificate table) = certificate (vec_items table)
-told (code.Verdict passed) = verdict passed
-told (code.Page text) = page (text_of text)
-told (code.Refused e) = refused (number_of e)
-told code.NotOffered = not_offered
+abbrev pub told : Served → Told
+told (Ok code.Done) = done
+told (Ok (code.Slot s)) = slot s
+told (Ok (code.Programme i)) = programme i
+told (Ok (code.Digit n)) = digit n
+told (Ok (code.Tally counts)) = tally counts
+told (Ok (code.Certificate table)) = certificate (vec_items table)
+told (Ok (code.Verdict passed)) = verdict passed
+told (Ok (code.Page text)) = page (text_of text)
+told (Err (unserved.Refused e)) = refused (number_of e)
+told (Err unserved.NotOffered) = not_offered
 
 -- The refusal, if there is one; else this.
 abbrev pub unless_refused : Option ℕ → Told → Told

@@ -1,4 +1,8 @@
 //! The calls of a week as values, and what they are answered.
+ghost use Rattle.std.specs.Prelude.{◌≡◌};
+ghost use Rattle.desk.specs.declared.calls.Unserved.TheVariants.{Refused};
+
+use filing::Wanted;
 use page_writer::PageText;
 use refusal::Refusal;
 use refusal::limits::Num;
@@ -22,15 +26,6 @@ pub enum Question<P> {
     JudgeStored,
 }
 
-/// A page of a week that is handed over.
-#[derive(Clone, Copy)]
-pub enum Wanted {
-    /// The page of its plan.
-    Plan,
-    /// The page of its certificate.
-    Certificate,
-}
-
 /// A call of a week over sources S, priorities P and edits of the kind E.
 #[derive(Drop)]
 pub enum Call<S, P, E> {
@@ -48,7 +43,7 @@ pub enum Call<S, P, E> {
     Reopen,
 }
 
-/// What a call is answered.
+/// What a call that is served is answered.
 #[derive(Drop)]
 pub enum Answer {
     /// A load, an edit, a hand over or a reopen was accepted.
@@ -67,8 +62,24 @@ pub enum Answer {
     Verdict(bool),
     /// The page.
     Page(PageText),
-    /// The call is refused, and nothing changed.
+}
+
+/// Why a call is not served. Nothing changed then.
+#[derive(Clone, Copy, PartialEq, Eq, Debug)]
+pub enum Unserved {
+    /// The call is refused.
     Refused(Refusal),
-    /// The week as it stands, open or handed over, has no such call; nothing changed.
+    /// The week as it stands, open or handed over, has no such call.
     NotOffered,
 }
+
+impl From<Refusal> for Unserved {
+    ghost from_gives = { λ refusal unserved. unserved ≡ Refused refusal };
+
+    fn from(refusal: Refusal) -> Unserved {
+        Unserved::Refused(refusal)
+    }
+}
+
+/// What a call comes to.
+pub type Served = Result<Answer, Unserved>;

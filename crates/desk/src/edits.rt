@@ -10,6 +10,7 @@ ghost use Rattle.desk.specs.Edits.{Rules, plain_rules, open_rules, plain_refusal
 
 use loaded::Loaded;
 use plan::Member;
+use plan::parts::Parts;
 use priority::Priority;
 use priority::ranking::Ranking;
 use refusal::Refusal;
@@ -75,8 +76,8 @@ fn make_plain<S: PairSource, P: Priority + Copy>(
 {
     match edit {
         Edit::Rank(member, priority) => week.rank(source, programmes, slots, member, priority),
-        Edit::Withdraw(member) => week.withdraw(source, &*programmes, &*slots, member),
-        Edit::Restore(member) => week.restore(source, &*programmes, &*slots, member),
+        Edit::Withdraw(member) => week.withdraw(&Parts { source, programmes: &*programmes, slots: &*slots }, member),
+        Edit::Restore(member) => week.restore(&Parts { source, programmes: &*programmes, slots: &*slots }, member),
     }
 }
 

@@ -6,17 +6,20 @@ ghost use Rattle.plan.specs.Parts.{parts_fit, whole_refusals};
 ghost use Rattle.week.specs.Planned.{Planned};
 ghost use Rattle.week.specs.Sheets.{plan_in, certificate_in};
 ghost use Rattle.loaded.specs.Loaded.{loaded_pairs, loaded_possible};
+ghost use Rattle.filing.specs.Filed.{page_of};
 ghost use Rattle.desk.specs.Ledger.{account, in_order};
 ghost use Rattle.desk.specs.Told.{told, or_refused, page};
-ghost use Rattle.desk.specs.Moments.{answer_question, page_of};
+ghost use Rattle.desk.specs.Moments.{answer_question};
 ghost use Rattle.desk.specs.Desks.{sheet_of};
 
 use crate::asking::{ask, page_answer};
-use crate::calls::{Answer, Question, Wanted};
+use crate::calls::{Question, Served};
 use crate::edits::EditKind;
 use crate::standing::Standing;
+use filing::Wanted;
 use loaded::Loaded;
 use page_writer::PageText;
+use plan::parts::Parts;
 use priority::Priority;
 use priority::ranking::Ranking;
 use refusal::Refusal;
@@ -38,7 +41,7 @@ pub(crate) fn load_week<S: PairSource, P: Priority + Copy>(
 {
     let programmes = Ranking::new(programmes);
     let slots = Ranking::new(slots);
-    week.load(source, &programmes, &slots)
+    week.load(&Parts { source, programmes: &programmes, slots: &slots })
 }
 
 /// Makes the edit on the week, the source and the lists.
@@ -66,13 +69,13 @@ pub(crate) fn ask_week<S: PairSource, P: Priority + Copy>(
     programmes: &mut [P],
     slots: &mut [P],
     question: Question<P>,
-) -> Answer
+) -> Served
     ensures told { (possible : ℕ → ℕ → Bool) → told result ≡ answer_question P.Priority.reaches (account (S.PairSource.pairs source.now) possible programmes.old slots.old (plan_in (sheet_of standing.now)).attendance) (plan_in (sheet_of standing.now)).slot_of (certificate_in (sheet_of standing.now)) question }
     ensures lists { (programmes.new ≡ programmes.old) × (slots.new ≡ slots.old) }
 {
     let programmes = Ranking::new(programmes);
     let slots = Ranking::new(slots);
-    ask(standing, source, &programmes, &slots, question)
+    ask(standing, &Parts { source, programmes: &programmes, slots: &slots }, question)
 }
 
 /// Writes the page of the week with the lists.
@@ -83,11 +86,11 @@ pub(crate) fn write_page<S: PairSource, P: Priority + Copy>(
     slots: &mut [P],
     wanted: Wanted,
     text: PageText,
-) -> Answer
+) -> Served
     ensures told { (possible : ℕ → ℕ → Bool) → told result ≡ or_refused (whole_refusals (in_order (account (S.PairSource.pairs source.now) possible programmes.old slots.old (plan_in week.now.sheet).attendance))) (page (page_of wanted (S.PairSource.pairs source.now).slots (plan_in week.now.sheet).slot_of (certificate_in week.now.sheet))) }
     ensures lists { (programmes.new ≡ programmes.old) × (slots.new ≡ slots.old) }
 {
     let programmes = Ranking::new(programmes);
     let slots = Ranking::new(slots);
-    page_answer(week, source, &programmes, &slots, wanted, text)
+    page_answer(week, &Parts { source, programmes: &programmes, slots: &slots }, wanted, text)
 }

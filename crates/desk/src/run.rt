@@ -5,7 +5,7 @@ ghost use Rattle.desk.specs.Moments.{meaning};
 ghost use Rattle.desk.specs.Runs.{Stands, Worked, Ran};
 ghost use Rattle.desk.specs.Desks.{moment_of};
 
-use crate::calls::{Answer, Call};
+use crate::calls::{Call, Served};
 use crate::desks::Desk;
 use crate::edits::EditKind;
 use crate::standing::Standing;
@@ -22,7 +22,7 @@ pub struct NewWeek<P> {
     week: Week,
     programmes: Vec<P>,
     slots: Vec<P>,
-    answers: Vec<Answer>,
+    answers: Vec<Served>,
     ghost unplanned: { (length (plan_in week.sheet).slot_of ≡ 0) × (length (plan_in week.sheet).programme_in ≡ 0) },
     ghost unnamed: { length (certificate_in week.sheet) ≡ 0 },
     ghost nobody: { (vec_len programmes ≡ 0) × (vec_len slots ≡ 0) },
@@ -51,15 +51,13 @@ impl<P> NewWeek<P> {
 
 /// Works the calls down from the desk, and adds what each was answered.
 fn work<S: PairSource + Drop, P: Priority + Copy, E: EditKind<S, P> + Drop>(
-    desk: Desk<S, P>,
+    mut desk: Desk<S, P>,
     calls: Vec<Call<S, P, E>>,
-    answers: Vec<Answer>,
-) -> Vec<Answer>
+    mut answers: Vec<Served>,
+) -> Vec<Served>
     requires { (vec_len answers ≡ 0) × (vec_len calls ≤ vec_capacity answers) }
     ensures { Stands P.Priority.reaches (moment_of (meaning S.PairSource.pairs P.Priority.reaches E.EditKind.rules) desk) → Worked (meaning S.PairSource.pairs P.Priority.reaches E.EditKind.rules) (moment_of (meaning S.PairSource.pairs P.Priority.reaches E.EditKind.rules) desk) calls.items result.items }
 {
-    let mut desk = desk;
-    let mut answers = answers;
     for call in calls {
         let (next, answer) = desk.serve(call);
         desk = next;
@@ -73,7 +71,7 @@ fn work<S: PairSource + Drop, P: Priority + Copy, E: EditKind<S, P> + Drop>(
 pub fn run<S: PairSource + Drop, P: Priority + Copy, E: EditKind<S, P> + Drop>(
     new: NewWeek<P>,
     calls: Vec<Call<S, P, E>>,
-) -> Result<Vec<Answer>, TooManyCalls>
+) -> Result<Vec<Served>, TooManyCalls>
     ensures answer { is_err result ≡ nat_lt (vec_capacity new.answers) (vec_len calls) }
     ensures ran { IfOk result (λ answers. Ran (meaning S.PairSource.pairs P.Priority.reaches E.EditKind.rules) calls.items answers.items) }
 {

@@ -1,69 +1,53 @@
 //! How a desk serves the calls of its week.
 ghost use Rattle.std.specs.Prelude.{◌≡◌};
-ghost use Rattle.desk.specs.Told.{told, outcome};
 ghost use Rattle.desk.specs.Moments.{meaning};
 ghost use Rattle.desk.specs.Desks.{Step};
 
-use crate::calls::{Answer, Call, Question, Wanted};
+use crate::calls::{Answer, Call, Question, Served, Unserved};
 use crate::desks::Desk;
 use crate::edits::EditKind;
 use crate::lending::{ask_week, edit_week, load_week, write_page};
 use crate::standing::Standing;
+use filing::Wanted;
 use loaded::Loaded;
 use page_writer::PageText;
 use priority::Priority;
-use refusal::Refusal;
 use source::PairSource;
-
-/// Done, or the refusal.
-fn done_or_refused(made: Result<(), Refusal>) -> Answer
-    ensures { told result ≡ outcome made }
-{
-    match made {
-        Ok(()) => Answer::Done,
-        Err(refusal) => Answer::Refused(refusal),
-    }
-}
 
 impl<S: PairSource + Drop, P: Priority + Copy> Desk<S, P> {
     /// An edit, which only an open week offers.
-    fn edit<E: EditKind<S, P> + Drop>(&mut self, edit: E) -> Answer
+    fn edit<E: EditKind<S, P> + Drop>(&mut self, edit: E) -> Served
         ensures { Step (meaning S.PairSource.pairs P.Priority.reaches E.EditKind.rules) self.old (Call.Edit edit) result self.new }
     {
-        match &mut self.standing {
-            Standing::Open(week) => done_or_refused(edit_week(
-                edit,
-                week,
-                &mut self.source,
-                &mut self.programmes,
-                &mut self.slots,
-            )),
-            Standing::HandedOver(_) => Answer::NotOffered,
-        }
+        let Standing::Open(week) = &mut self.standing else {
+            return Err(Unserved::NotOffered);
+        };
+        edit_week(
+            edit,
+            week,
+            &mut self.source,
+            &mut self.programmes,
+            &mut self.slots,
+        )?;
+        Ok(Answer::Done)
     }
 
     /// A load, which only an open week offers. The kind of edits E says what the ledger enters as possible.
-    fn load<E: EditKind<S, P>>(&mut self, source: S, programmes: Vec<P>, slots: Vec<P>) -> Answer
+    fn load<E: EditKind<S, P>>(&mut self, source: S, mut programmes: Vec<P>, mut slots: Vec<P>) -> Served
         ensures { Step (meaning S.PairSource.pairs P.Priority.reaches E.EditKind.rules) self.old (Call.Load source programmes slots) result self.new }
     {
         let Standing::Open(week) = &mut self.standing else {
-            return Answer::NotOffered;
+            return Err(Unserved::NotOffered);
         };
-        let mut programmes = programmes;
-        let mut slots = slots;
-        match load_week(week, &source, &mut programmes, &mut slots) {
-            Ok(()) => {
-                self.source = Loaded::Source(source);
-                self.programmes = programmes;
-                self.slots = slots;
-                Answer::Done
-            }
-            Err(refusal) => Answer::Refused(refusal),
-        }
+        load_week(week, &source, &mut programmes, &mut slots)?;
+        self.source = Loaded::Source(source);
+        self.programmes = programmes;
+        self.slots = slots;
+        Ok(Answer::Done)
     }
 
     /// A question, which every week offers.
-    fn ask<E: EditKind<S, P>>(&mut self, question: Question<P>) -> Answer
+    fn ask<E: EditKind<S, P>>(&mut self, question: Question<P>) -> Served
         ensures { Step (meaning S.PairSource.pairs P.Priority.reaches E.EditKind.rules) self.old (Call.Ask question) result self.new }
     {
         ask_week(
@@ -76,122 +60,50 @@ impl<S: PairSource + Drop, P: Priority + Copy> Desk<S, P> {
     }
 
     /// A page, which only a week that is handed over offers.
-    fn write<E: EditKind<S, P>>(&mut self, wanted: Wanted, text: PageText) -> Answer
+    fn write<E: EditKind<S, P>>(&mut self, wanted: Wanted, text: PageText) -> Served
         ensures { Step (meaning S.PairSource.pairs P.Priority.reaches E.EditKind.rules) self.old (Call.Write wanted text) result self.new }
     {
-        match &self.standing {
-            Standing::Open(_) => Answer::NotOffered,
-            Standing::HandedOver(week) => write_page(
-                week,
-                &self.source,
-                &mut self.programmes,
-                &mut self.slots,
-                wanted,
-                text,
-            ),
-        }
+        let Standing::HandedOver(week) = &self.standing else {
+            return Err(Unserved::NotOffered);
+        };
+        write_page(
+            week,
+            &self.source,
+            &mut self.programmes,
+            &mut self.slots,
+            wanted,
+            text,
+        )
     }
 
     /// Hands an open week over.
-    fn hand_over<E: EditKind<S, P>>(self) -> (Desk<S, P>, Answer)
+    fn hand_over<E: EditKind<S, P>>(self) -> (Desk<S, P>, Served)
         ensures { Step (meaning S.PairSource.pairs P.Priority.reaches E.EditKind.rules) self Call.HandOver result.1 result.0 }
     {
-        let Desk {
-            standing,
-            source,
-            programmes,
-            slots,
-        } = self;
-        match standing {
-            Standing::Open(week) => {
-                let standing = Standing::HandedOver(week.hand_over());
-                (
-                    Desk {
-                        standing,
-                        source,
-                        programmes,
-                        slots,
-                    },
-                    Answer::Done,
-                )
-            }
-            Standing::HandedOver(week) => {
-                let standing = Standing::HandedOver(week);
-                (
-                    Desk {
-                        standing,
-                        source,
-                        programmes,
-                        slots,
-                    },
-                    Answer::NotOffered,
-                )
-            }
-        }
+        let (standing, served) = self.standing.hand_over();
+        (Desk { standing, ..self }, served)
     }
 
     /// Reopens a week that is handed over.
-    fn reopen<E: EditKind<S, P>>(self) -> (Desk<S, P>, Answer)
+    fn reopen<E: EditKind<S, P>>(self) -> (Desk<S, P>, Served)
         ensures { Step (meaning S.PairSource.pairs P.Priority.reaches E.EditKind.rules) self Call.Reopen result.1 result.0 }
     {
-        let Desk {
-            standing,
-            source,
-            programmes,
-            slots,
-        } = self;
-        match standing {
-            Standing::Open(week) => {
-                let standing = Standing::Open(week);
-                (
-                    Desk {
-                        standing,
-                        source,
-                        programmes,
-                        slots,
-                    },
-                    Answer::NotOffered,
-                )
-            }
-            Standing::HandedOver(week) => {
-                let standing = Standing::Open(week.reopen());
-                (
-                    Desk {
-                        standing,
-                        source,
-                        programmes,
-                        slots,
-                    },
-                    Answer::Done,
-                )
-            }
-        }
+        let (standing, served) = self.standing.reopen();
+        (Desk { standing, ..self }, served)
     }
 
-    /// Works one call.
-    pub(crate) fn serve<E: EditKind<S, P> + Drop>(self, call: Call<S, P, E>) -> (Desk<S, P>, Answer)
+    /// Works a call. The desk comes back with what the call came to.
+    pub(crate) fn serve<E: EditKind<S, P> + Drop>(mut self, call: Call<S, P, E>) -> (Desk<S, P>, Served)
         ensures { Step (meaning S.PairSource.pairs P.Priority.reaches E.EditKind.rules) self call result.1 result.0 }
     {
-        let mut desk = self;
-        match call {
-            Call::Load(source, programmes, slots) => {
-                let answer = desk.load::<E>(source, programmes, slots);
-                (desk, answer)
-            }
-            Call::Edit(edit) => {
-                let answer = desk.edit(edit);
-                (desk, answer)
-            }
-            Call::Ask(question) => {
-                let answer = desk.ask::<E>(question);
-                (desk, answer)
-            }
-            Call::Write(wanted, text) => {
-                let answer = desk.write::<E>(wanted, text);
-                (desk, answer)
-            }
-            Call::HandOver => desk.hand_over::<E>(),
-            Call::Reopen => desk.reopen::<E>(),
-        }
+        let served = match call {
+            Call::Load(source, programmes, slots) => self.load::<E>(source, programmes, slots),
+            Call::Edit(edit) => self.edit(edit),
+            Call::Ask(question) => self.ask::<E>(question),
+            Call::Write(wanted, text) => self.write::<E>(wanted, text),
+            Call::HandOver => return self.hand_over::<E>(),
+            Call::Reopen => return self.reopen::<E>(),
+        };
+        (self, served)
     }
 }
