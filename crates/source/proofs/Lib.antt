@@ -1,3 +1,4 @@
 pub mod Making
 pub mod Questions
 pub mod Layers
+pub mod Missing

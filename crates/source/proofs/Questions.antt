@@ -1,5 +1,6 @@
 -- Lemmas on what a source is asked: its counts, and its first slots.
-use Rattle.std.proofs.Common.{◌≡◌, ℕ, ◌+◌, ◌-◌, ◌<◌, ◌≤◌, true, false, eqb, Some, None, sym, ap, ◌∙◌, ⊎_elim, arith}
+use Rattle.std.proofs.Common.{◌≡◌, ℕ, ◌+◌, ◌-◌, ◌<◌, ◌≤◌, true, false, eqb, Some, None, Option, sym, ap, ◌∙◌, ⊎_elim, arith}
+use Rattle.std.specs.Option.{option_eq}
 use Rattle.std.proofs.lemmas.Bool.{and_parts, cases_Bool, cases_eq, eq-eqb, ne_eqb}
 use Rattle.refusal.specs.Counting.{count}
 use Rattle.refusal.proofs.Counts.{within_bounds}
@@ -20,16 +21,14 @@ pub no_slot_found : (p : Pairs) (i k : ℕ) → None ≡ first_slot p i k → (j
 no_slot_found p i k e = first_none (holds p i) p.slots k (sym e)
 
 -- the first slot from s on is s exactly where the pair is allowed
-pub first_is : (p : Pairs) (i s t : ℕ) → Some t ≡ first_slot p i s → eqb t s ≡ holds p i s
-first_is p i s t e =
+pub first_is : (p : Pairs) (i s : ℕ) (found : Option ℕ) → found ≡ first_slot p i s → option_eq eqb found (Some s) ≡ holds p i s
+first_is p i s (Some t) e =
     let r = first_slot_found p i s t e in
     ⊎_elim
     (λ (same : t ≡ s). eq-eqb t s same ∙ sym (ap (holds p i) (sym same) ∙ r.2))
     (λ (other : t ≡ s → ⊥). ne_eqb t s other ∙ sym (r.3 s (omega arith) (omega (arith, r.0))))
     (cases_eq t s)
-
-pub first_is_not : (p : Pairs) (i s : ℕ) → None ≡ first_slot p i s → false ≡ holds p i s
-first_is_not p i s e =
+first_is p i s None e =
     ⊎_elim
     (λ (q : holds p i s ≡ true).
     let b = inside_slot p i s (and_parts (inside p i s) (p.allowed i s) q).0 in

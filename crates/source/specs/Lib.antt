@@ -1,3 +1,4 @@
 pub mod Pairs
 pub mod Edits
 pub mod Makes
+pub mod Missing

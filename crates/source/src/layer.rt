@@ -1,12 +1,12 @@
 //! Layers: a source less some pairs, with its counts cut to `SIDE`.
 //!
 //! What a layer takes out is an `Exclusion`. The loop is written for the slots of a programme;
-//! handed mirrors, it answers for the programmes of a slot.
+//! handed both turned, it answers for the programmes of a slot.
 ghost use Rattle.std.specs.Prelude.{◌≡◌, ℕ, Bool};
 ghost use Rattle.source.specs.Pairs.{first_slot, layered};
 
 use crate::PairSource;
-use crate::mirror::Mirror;
+use crate::turned::Turned;
 use refusal::limits::{Num, SIDE};
 
 /// A set of pairs that a layer takes out.
@@ -19,8 +19,16 @@ pub trait Exclusion {
         ensures { result ≡ excluded self.now programme slot };
 }
 
-impl<'a, E: Exclusion> Exclusion for Mirror<'a, E> {
-    ghost excluded = { λ mirror i s. E.Exclusion.excluded mirror.0.now s i };
+impl<'a, E: Exclusion> Exclusion for &'a E {
+    ghost excluded = { λ out. E.Exclusion.excluded out.now };
+
+    fn excludes(&self, programme: Num, slot: Num) -> bool {
+        (**self).excludes(programme, slot)
+    }
+}
+
+impl<E: Exclusion> Exclusion for Turned<E> {
+    ghost excluded = { λ out i s. E.Exclusion.excluded out.0 s i };
 
     fn excludes(&self, programme: Num, slot: Num) -> bool {
         self.0.excludes(slot, programme)

@@ -8,7 +8,8 @@ ghost use Rattle.source.specs.Pairs.{Pairs, inside, holds, same_counts, first_sl
 ghost use Rattle.source.specs.Edits.{bar_refusals, lift_refusals};
 
 pub mod layer;
-pub mod mirror;
+pub mod lent;
+pub mod optional;
 pub mod turned;
 
 use refusal::Refusal;
@@ -63,20 +64,14 @@ pub trait OpenSource: PairSource {
 pub fn is_inside<S: PairSource>(source: &S, programme: Num, slot: Num) -> bool
     ensures { result ≡ inside (S.PairSource.pairs source.now) programme slot }
 {
-    1 <= programme && programme <= source.programmes() && 1 <= slot && slot <= source.slots()
+    (1..=source.programmes()).contains(&programme) && (1..=source.slots()).contains(&slot)
 }
 
 /// Whether the programme may run in the slot.
 pub fn allows<S: PairSource>(source: &S, programme: Num, slot: Num) -> bool
     ensures { result ≡ holds (S.PairSource.pairs source.now) programme slot }
 {
-    if !is_inside(source, programme, slot) {
-        return false;
-    }
-    match source.first_slot(programme, slot as usize) {
-        Some(first) => first == slot,
-        None => false,
-    }
+    is_inside(source, programme, slot) && source.first_slot(programme, slot as usize) == Some(slot)
 }
 
 /// In how many slots the programme may run.

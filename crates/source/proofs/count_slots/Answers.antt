@@ -2,9 +2,6 @@ use Rattle.std.proofs.Common.{arith}
 use Rattle.source.proofs.Questions.{first_slot_found, count_found, count_done}
 use Rattle.source.proofs.count_slots.Goals as goal
 
-pub overflow_add-slots : goal.overflow_add-slots
-overflow_add-slots g c = omega (arith, c.loop-slot.invariant.3, c.loop-slot.invariant.4)
-
 pub loop-slot-smaller : goal.loop-slot-smaller
 loop-slot-smaller g c =
     let found = first_slot_found (g.S.PairSource.pairs c.args.source.now) c.args.programme c.loop-slot.from c.in-Some.slot c.in-Some.ensures in
