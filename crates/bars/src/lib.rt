@@ -12,7 +12,7 @@ use grid::Grid;
 use refusal::limits::{Num, SIDE};
 use refusal::{MakeError, Refusal};
 use source::layer::first_slot_left;
-use source::mirror::Mirror;
+use source::turned::Turned;
 use source::{OpenSource, PairSource, allows, is_inside};
 use std::alloc::Global;
 
@@ -63,7 +63,7 @@ impl<S: PairSource> PairSource for Bars<S> {
     }
 
     fn first_programme(&self, slot: Num, from: usize) -> Option<Num> {
-        first_slot_left(&Mirror(&self.below), &Mirror(&self.barred), slot, from)
+        first_slot_left(&Turned(&self.below), &Turned(&self.barred), slot, from)
     }
 }
 

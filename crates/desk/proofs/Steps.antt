@@ -7,7 +7,7 @@ use Rattle.week.specs.Planned.{Planned}
 use Rattle.week.specs.Sheets.{plan_in, certificate_in}
 use Rattle.desk.specs.declared.calls.Call.{Call}
 use Rattle.desk.specs.declared.desks.Desk.{Desk}
-use Rattle.loaded.specs.Loaded.{loaded_pairs, loaded_possible}
+use Rattle.source.specs.Missing.{pairs_if_any, possible_if_any}
 use Rattle.desk.specs.declared.standing.Standing.{Standing}
 use Rattle.desk.specs.Ledger.{Ledger, account}
 use Rattle.desk.specs.Told.{Served, Told, done, told, outcome, is_done, or_refused}
@@ -37,10 +37,10 @@ module _ {S P E : Type 0} (M : Meaning S P E) (d e : Desk S P) where
   n = moment_of M e
 
   -- what planning leaves stands
-  pub planned_stands : Planned M.reaches (loaded_pairs M.pairs e.source) (vec_items e.programmes) (vec_items e.slots) (plan_in (sheet_of e.standing)) (certificate_in (sheet_of e.standing)) → Stands M.reaches n
+  pub planned_stands : Planned M.reaches (pairs_if_any M.pairs e.source) (vec_items e.programmes) (vec_items e.slots) (plan_in (sheet_of e.standing)) (certificate_in (sheet_of e.standing)) → Stands M.reaches n
   planned_stands p =
       record {
-        ordered = sym (plan_in_order (sheet_of e.standing).plan (loaded_pairs M.pairs e.source) (loaded_possible M.rules.possible e.source) (vec_items e.programmes) (vec_items e.slots)) ∙ p.fit;
+        ordered = sym (plan_in_order (sheet_of e.standing).plan (pairs_if_any M.pairs e.source) (possible_if_any M.rules.possible e.source) (vec_items e.programmes) (vec_items e.slots)) ∙ p.fit;
         best = p.best;
         entries = p.entries;
         passing = p.passing;
@@ -66,7 +66,7 @@ module _ {S P E : Type 0} (M : Meaning S P E) (d e : Desk S P) where
         → replans call ≡ true → n.opened ≡ open_after call m.opened
         → IfErr r (λ _. (sheet_of e.standing ≡ sheet_of d.standing) × (n.ledger ≡ m.ledger))
         → IfOk r (λ _. n.ledger ≡ entered M call m.ledger)
-        → IfOk r (λ _. Planned M.reaches (loaded_pairs M.pairs e.source) (vec_items e.programmes) (vec_items e.slots) (plan_in (sheet_of e.standing)) (certificate_in (sheet_of e.standing)))
+        → IfOk r (λ _. Planned M.reaches (pairs_if_any M.pairs e.source) (vec_items e.programmes) (vec_items e.slots) (plan_in (sheet_of e.standing)) (certificate_in (sheet_of e.standing)))
         → Step M d call a e
     planning_step (Ok u) tests says none asks new opened kept entry planned =
         let right : told a ≡ answer M call m = says ∙ accepted_told (first_refusal tests) done done none refl ∙ sym asks in
@@ -90,5 +90,5 @@ pub standing_step : {S P E : Type 0} (M : Meaning S P E) (d : Desk S P) (s : Sta
 standing_step {S} {P} M d s call a right entry opened same =
     let e : Desk S P = record { standing = s; source = d.source; programmes = d.programmes; slots = d.slots } in
     still_step M d e call a right
-    (ap (λ (x : Sheet). account (loaded_pairs M.pairs d.source) (loaded_possible M.rules.possible d.source) (vec_items d.programmes) (vec_items d.slots) (plan_in x).attendance) same)
+    (ap (λ (x : Sheet). account (pairs_if_any M.pairs d.source) (possible_if_any M.rules.possible d.source) (vec_items d.programmes) (vec_items d.slots) (plan_in x).attendance) same)
     (cond_same (is_done (told a)) _ _ entry) opened (ap (λ (x : Sheet). (plan_in x).slot_of) same) (ap certificate_in same)

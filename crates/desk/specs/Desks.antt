@@ -5,7 +5,7 @@ use Rattle.week.specs.Sheets.{plan_in, certificate_in}
 use Rattle.desk.specs.declared.standing.Standing.{Standing}
 use Rattle.desk.specs.declared.standing.Standing.TheVariants.{Open, HandedOver}
 use Rattle.desk.specs.declared.desks.Desk.{Desk}
-use Rattle.loaded.specs.Loaded.{loaded_pairs, loaded_possible}
+use Rattle.source.specs.Missing.{pairs_if_any, possible_if_any}
 use Rattle.desk.specs.Ledger.{account}
 use Rattle.desk.specs.declared.calls.Call.{Call}
 use Rattle.desk.specs.Told.{Served, told}
@@ -26,7 +26,7 @@ is_open (HandedOver week) = false
 abbrev pub moment_of : {S P E : Type 0} → Meaning S P E → Desk S P → Moment P
 moment_of M d = record {
   opened = is_open d.standing;
-  ledger = account (loaded_pairs M.pairs d.source) (loaded_possible M.rules.possible d.source) (vec_items d.programmes) (vec_items d.slots) (plan_in (sheet_of d.standing)).attendance;
+  ledger = account (pairs_if_any M.pairs d.source) (possible_if_any M.rules.possible d.source) (vec_items d.programmes) (vec_items d.slots) (plan_in (sheet_of d.standing)).attendance;
   plan = (plan_in (sheet_of d.standing)).slot_of;
   certificate = certificate_in (sheet_of d.standing);
 }

@@ -4,11 +4,10 @@ ghost use Rattle.refusal.specs.Refusals.{refusal_of, first_refusal};
 ghost use Rattle.plan.specs.Parts.{ranked};
 ghost use Rattle.week.specs.Planned.{Planned};
 ghost use Rattle.week.specs.Sheets.{plan_in, certificate_in};
-ghost use Rattle.loaded.specs.Loaded.{loaded_pairs, loaded_possible};
+ghost use Rattle.source.specs.Missing.{pairs_if_any, possible_if_any};
 ghost use Rattle.desk.specs.Ledger.{account};
 ghost use Rattle.desk.specs.Edits.{Rules, plain_rules, open_rules, plain_refusals, plain_entered};
 
-use loaded::Loaded;
 use plan::Member;
 use plan::parts::Parts;
 use priority::Priority;
@@ -49,14 +48,14 @@ pub trait EditKind<S: PairSource, P: Priority + Copy>: Sized {
     fn make(
         self,
         week: &mut Week,
-        source: &mut Loaded<S>,
+        source: &mut Option<S>,
         programmes: &mut Ranking<P>,
         slots: &mut Ranking<P>,
     ) -> Result<(), Refusal>
-        ensures answer { refusal_of result ≡ first_refusal (rules.refusals (account (loaded_pairs S.PairSource.pairs source.old) (loaded_possible rules.possible source.old) (ranked programmes.old) (ranked slots.old) (plan_in week.old.sheet).attendance) self) }
-        ensures kept { OnErr result ((week.new ≡ week.old) × (account (loaded_pairs S.PairSource.pairs source.new) (loaded_possible rules.possible source.new) (ranked programmes.new) (ranked slots.new) (plan_in week.new.sheet).attendance ≡ account (loaded_pairs S.PairSource.pairs source.old) (loaded_possible rules.possible source.old) (ranked programmes.old) (ranked slots.old) (plan_in week.old.sheet).attendance)) }
-        ensures entered { OnOk result (account (loaded_pairs S.PairSource.pairs source.new) (loaded_possible rules.possible source.new) (ranked programmes.new) (ranked slots.new) (plan_in week.new.sheet).attendance ≡ rules.entered self (account (loaded_pairs S.PairSource.pairs source.old) (loaded_possible rules.possible source.old) (ranked programmes.old) (ranked slots.old) (plan_in week.old.sheet).attendance)) }
-        ensures planned { OnOk result (Planned P.Priority.reaches (loaded_pairs S.PairSource.pairs source.new) (ranked programmes.new) (ranked slots.new) (plan_in week.new.sheet) (certificate_in week.new.sheet)) }
+        ensures answer { refusal_of result ≡ first_refusal (rules.refusals (account (pairs_if_any S.PairSource.pairs source.old) (possible_if_any rules.possible source.old) (ranked programmes.old) (ranked slots.old) (plan_in week.old.sheet).attendance) self) }
+        ensures kept { OnErr result ((week.new ≡ week.old) × (account (pairs_if_any S.PairSource.pairs source.new) (possible_if_any rules.possible source.new) (ranked programmes.new) (ranked slots.new) (plan_in week.new.sheet).attendance ≡ account (pairs_if_any S.PairSource.pairs source.old) (possible_if_any rules.possible source.old) (ranked programmes.old) (ranked slots.old) (plan_in week.old.sheet).attendance)) }
+        ensures entered { OnOk result (account (pairs_if_any S.PairSource.pairs source.new) (possible_if_any rules.possible source.new) (ranked programmes.new) (ranked slots.new) (plan_in week.new.sheet).attendance ≡ rules.entered self (account (pairs_if_any S.PairSource.pairs source.old) (possible_if_any rules.possible source.old) (ranked programmes.old) (ranked slots.old) (plan_in week.old.sheet).attendance)) }
+        ensures planned { OnOk result (Planned P.Priority.reaches (pairs_if_any S.PairSource.pairs source.new) (ranked programmes.new) (ranked slots.new) (plan_in week.new.sheet) (certificate_in week.new.sheet)) }
         ensures lent { (programmes.new.table.ghost_name ≡ programmes.old.table.ghost_name) × (slots.new.table.ghost_name ≡ slots.old.table.ghost_name) };
 }
 
@@ -87,7 +86,7 @@ impl<S: PairSource, P: Priority + Copy> EditKind<S, P> for Edit<P> {
     fn make(
         self,
         week: &mut Week,
-        source: &mut Loaded<S>,
+        source: &mut Option<S>,
         programmes: &mut Ranking<P>,
         slots: &mut Ranking<P>,
     ) -> Result<(), Refusal> {
@@ -101,7 +100,7 @@ impl<S: OpenSource, P: Priority + Copy> EditKind<S, P> for OpenEdit<P> {
     fn make(
         self,
         week: &mut Week,
-        source: &mut Loaded<S>,
+        source: &mut Option<S>,
         programmes: &mut Ranking<P>,
         slots: &mut Ranking<P>,
     ) -> Result<(), Refusal> {

@@ -5,7 +5,7 @@ ghost use Rattle.plan.specs.Held.{everyone};
 ghost use Rattle.plan.specs.Parts.{parts_fit, whole_refusals};
 ghost use Rattle.week.specs.Planned.{Planned};
 ghost use Rattle.week.specs.Sheets.{plan_in, certificate_in};
-ghost use Rattle.loaded.specs.Loaded.{loaded_pairs, loaded_possible};
+ghost use Rattle.source.specs.Missing.{pairs_if_any, possible_if_any};
 ghost use Rattle.filing.specs.Filed.{page_of};
 ghost use Rattle.desk.specs.Ledger.{account, in_order};
 ghost use Rattle.desk.specs.Told.{told, or_refused, page};
@@ -17,7 +17,6 @@ use crate::calls::{Question, Served};
 use crate::edits::EditKind;
 use crate::standing::Standing;
 use filing::Wanted;
-use loaded::Loaded;
 use page_writer::PageText;
 use plan::parts::Parts;
 use priority::Priority;
@@ -48,14 +47,14 @@ pub(crate) fn load_week<S: PairSource, P: Priority + Copy>(
 pub(crate) fn edit_week<S: PairSource, P: Priority + Copy, E: EditKind<S, P>>(
     edit: E,
     week: &mut Week,
-    source: &mut Loaded<S>,
+    source: &mut Option<S>,
     programmes: &mut [P],
     slots: &mut [P],
 ) -> Result<(), Refusal>
-    ensures answer { refusal_of result ≡ first_refusal (E.EditKind.rules.refusals (account (loaded_pairs S.PairSource.pairs source.old) (loaded_possible E.EditKind.rules.possible source.old) programmes.old slots.old (plan_in week.old.sheet).attendance) edit) }
-    ensures kept { OnErr result ((week.new ≡ week.old) × (account (loaded_pairs S.PairSource.pairs source.new) (loaded_possible E.EditKind.rules.possible source.new) programmes.new slots.new (plan_in week.new.sheet).attendance ≡ account (loaded_pairs S.PairSource.pairs source.old) (loaded_possible E.EditKind.rules.possible source.old) programmes.old slots.old (plan_in week.old.sheet).attendance)) }
-    ensures entered { OnOk result (account (loaded_pairs S.PairSource.pairs source.new) (loaded_possible E.EditKind.rules.possible source.new) programmes.new slots.new (plan_in week.new.sheet).attendance ≡ E.EditKind.rules.entered edit (account (loaded_pairs S.PairSource.pairs source.old) (loaded_possible E.EditKind.rules.possible source.old) programmes.old slots.old (plan_in week.old.sheet).attendance)) }
-    ensures planned { OnOk result (Planned P.Priority.reaches (loaded_pairs S.PairSource.pairs source.new) programmes.new slots.new (plan_in week.new.sheet) (certificate_in week.new.sheet)) }
+    ensures answer { refusal_of result ≡ first_refusal (E.EditKind.rules.refusals (account (pairs_if_any S.PairSource.pairs source.old) (possible_if_any E.EditKind.rules.possible source.old) programmes.old slots.old (plan_in week.old.sheet).attendance) edit) }
+    ensures kept { OnErr result ((week.new ≡ week.old) × (account (pairs_if_any S.PairSource.pairs source.new) (possible_if_any E.EditKind.rules.possible source.new) programmes.new slots.new (plan_in week.new.sheet).attendance ≡ account (pairs_if_any S.PairSource.pairs source.old) (possible_if_any E.EditKind.rules.possible source.old) programmes.old slots.old (plan_in week.old.sheet).attendance)) }
+    ensures entered { OnOk result (account (pairs_if_any S.PairSource.pairs source.new) (possible_if_any E.EditKind.rules.possible source.new) programmes.new slots.new (plan_in week.new.sheet).attendance ≡ E.EditKind.rules.entered edit (account (pairs_if_any S.PairSource.pairs source.old) (possible_if_any E.EditKind.rules.possible source.old) programmes.old slots.old (plan_in week.old.sheet).attendance)) }
+    ensures planned { OnOk result (Planned P.Priority.reaches (pairs_if_any S.PairSource.pairs source.new) programmes.new slots.new (plan_in week.new.sheet) (certificate_in week.new.sheet)) }
 {
     let mut programmes = Ranking::new(programmes);
     let mut slots = Ranking::new(slots);

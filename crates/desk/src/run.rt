@@ -9,7 +9,6 @@ use crate::calls::{Call, Served};
 use crate::desks::Desk;
 use crate::edits::EditKind;
 use crate::standing::Standing;
-use loaded::Loaded;
 use priority::Priority;
 use source::PairSource;
 use std::alloc::{AllocError, Global};
@@ -86,7 +85,7 @@ pub fn run<S: PairSource + Drop, P: Priority + Copy, E: EditKind<S, P> + Drop>(
     }
     let desk = Desk {
         standing: Standing::Open(week),
-        source: Loaded::Nothing,
+        source: None,
         programmes,
         slots,
     };

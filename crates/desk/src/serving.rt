@@ -9,7 +9,6 @@ use crate::edits::EditKind;
 use crate::lending::{ask_week, edit_week, load_week, write_page};
 use crate::standing::Standing;
 use filing::Wanted;
-use loaded::Loaded;
 use page_writer::PageText;
 use priority::Priority;
 use source::PairSource;
@@ -40,7 +39,7 @@ impl<S: PairSource + Drop, P: Priority + Copy> Desk<S, P> {
             return Err(Unserved::NotOffered);
         };
         load_week(week, &source, &mut programmes, &mut slots)?;
-        self.source = Loaded::Source(source);
+        self.source = Some(source);
         self.programmes = programmes;
         self.slots = slots;
         Ok(Answer::Done)

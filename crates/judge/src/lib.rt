@@ -25,7 +25,7 @@ use priority::Priority;
 use priority::ranking::Ranking;
 use refusal::Refusal;
 use source::PairSource;
-use source::mirror::Mirror;
+use source::turned::Turned;
 
 /// Whether what is in view passes with these names: the plan is lawful, the programmes keep the rules,
 /// and so do the slots.
@@ -38,7 +38,7 @@ fn is_passed<S: PairSource, P: Priority>(
     ensures { result ≡ verdict P.Priority.reaches (shown S.PairSource.pairs view.now) programme_names.now slot_names.now }
 {
     let turned = View {
-        source: &Mirror(view.source),
+        source: &Turned(view.source),
         programmes: view.slots,
         slots: view.programmes,
         programmes_present: view.slots_present,

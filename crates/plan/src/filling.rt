@@ -10,7 +10,7 @@ ghost use Rattle.plan.specs.Filling.{twice, first_twice, found_twice, twice_of, 
 use crate::Plan;
 use grid::Grid;
 use refusal::limits::Num;
-use source::mirror::Mirror;
+use source::turned::Turned;
 use source::{PairSource, count_slots};
 
 /// What stands in two pairs, so that the pairs are no plan.
@@ -52,7 +52,7 @@ impl Plan {
         if let Some(programme) = find_twice(grid) {
             return Err(Twice::Programme(programme));
         }
-        if let Some(slot) = find_twice(&Mirror(grid)) {
+        if let Some(slot) = find_twice(&Turned(grid)) {
             return Err(Twice::Slot(slot));
         }
         self.take_pairs(grid);

@@ -25,7 +25,7 @@ use refusal::Refusal;
 use refusal::limits::Num;
 use refusal::tables::entry;
 use search::space::Space;
-use source::mirror::Mirror;
+use source::turned::Turned;
 use source::{PairSource, allows};
 
 /// Whether the pair is allowed, and both are present.
@@ -83,7 +83,7 @@ fn pass_both<S: PairSource, P: Priority>(
     );
     plan.turn();
     let from_slots = run_pass(
-        &Mirror(source),
+        &Turned(source),
         slots,
         plan,
         slot_names,

@@ -4,7 +4,6 @@ use Rattle.std.specs.Vec.{with_items}
 use Rattle.plan.specs.Parts.{parts_fit, whole_refusals}
 use Rattle.desk.specs.declared.standing.Standing.{Standing}
 use Rattle.desk.specs.declared.standing.Standing.TheVariants.{Open}
-use Rattle.loaded.specs.declared.Loaded.TheVariants.{Source}
 use Rattle.desk.specs.declared.desks.Desk.{Desk}
 use Rattle.desk.specs.declared.calls.Call.TheVariants.{Load}
 use Rattle.desk.specs.declared.calls.Answer.TheVariants.{Done}

@@ -5,7 +5,7 @@ use Rattle.desk.specs.declared.standing.Standing.{Standing}
 use Rattle.desk.specs.declared.standing.Standing.TheVariants.{HandedOver}
 use Rattle.desk.specs.declared.desks.Desk.{Desk}
 use Rattle.desk.specs.declared.calls.Call.TheVariants.{Write}
-use Rattle.loaded.specs.Loaded.{loaded_possible}
+use Rattle.source.specs.Missing.{possible_if_any}
 use Rattle.desk.specs.Moments.{meaning}
 use Rattle.desk.specs.Desks.{Step}
 use Rattle.desk.proofs.Steps.{still_step, cond_same}
@@ -26,4 +26,4 @@ returns-in-HandedOver g c =
     let here = HandedOver c.in-HandedOver.week in
     subst (λ (s : Standing). Step M (before s) call c.write_page.result (after s)) (sym c.in-HandedOver.is)
     (still_step M (before here) (after here) call c.write_page.result
-    (rw (a, b) at (told.told (loaded_possible g.E.EditKind.rules.possible v.source))) (rw (p, q) refl) (cond_same _ _ _ refl) refl refl refl)
+    (rw (a, b) at (told.told (possible_if_any g.E.EditKind.rules.possible v.source))) (rw (p, q) refl) (cond_same _ _ _ refl) refl refl refl)

@@ -2,15 +2,15 @@ use Rattle.std.proofs.Common.{Bool, ap, ◌∙◌, rules}
 use Rattle.refusal.specs.Refusals.{first_refusal}
 use Rattle.plan.specs.Parts.{ranked}
 use Rattle.week.specs.Calls.{week_bar_refusals, week_lift_refusals}
-use Rattle.loaded.specs.Loaded.{loaded_pairs, loaded_possible}
+use Rattle.source.specs.Missing.{pairs_if_any, possible_if_any}
 use Rattle.desk.proofs.Entries.{plan_in_order, pairs_entered}
 use Rattle.desk.proofs.edits.OpenEditEditKind.make.Goals as goal
 
 pub returns-in-Bar : goal.returns-in-Bar
 returns-in-Bar g c =
     let told = c.bar.ensures in
-    let pairs = loaded_pairs g.S.PairSource.pairs c.args.source.now in
-    let possible = loaded_possible g.S.OpenSource.possible c.args.source.now in
+    let pairs = pairs_if_any g.S.PairSource.pairs c.args.source.now in
+    let possible = possible_if_any g.S.OpenSource.possible c.args.source.now in
     let xs = ranked c.args.programmes.now in
     let ys = ranked c.args.slots.now in
     let e = plan_in_order c.args.week.now.sheet.plan pairs possible xs ys in
@@ -25,8 +25,8 @@ returns-in-Bar g c =
 pub returns-in-Lift : goal.returns-in-Lift
 returns-in-Lift g c =
     let told = c.lift.ensures in
-    let pairs = loaded_pairs g.S.PairSource.pairs c.args.source.now in
-    let possible = loaded_possible g.S.OpenSource.possible c.args.source.now in
+    let pairs = pairs_if_any g.S.PairSource.pairs c.args.source.now in
+    let possible = possible_if_any g.S.OpenSource.possible c.args.source.now in
     let xs = ranked c.args.programmes.now in
     let ys = ranked c.args.slots.now in
     let e = plan_in_order c.args.week.now.sheet.plan pairs possible xs ys in
