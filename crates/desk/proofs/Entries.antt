@@ -35,9 +35,9 @@ pub planned_lent : {P T E : Type 0} (r : Result T E) (reaches : P → P → Bool
 planned_lent r reaches pairs plan certificate xs xs'' ys ys'' h a b = rw (a, b) h
 
 -- a week that was kept has its sheet kept
-pub sheet_kept : {T E : Type 0} (r : Result T E) (w w' : Week) (Q : Type 0) → IfErr r (λ _. (w ≡ w') × Q) → IfErr r (λ _. (w.sheet ≡ w'.sheet) × Q)
+pub sheet_kept : {State T E : Type 0} (r : Result T E) (w w' : Week State) (Q : Type 0) → IfErr r (λ _. (w ≡ w') × Q) → IfErr r (λ _. (w.sheet ≡ w'.sheet) × Q)
 sheet_kept (Ok v) w w' Q h = tt
-sheet_kept (Err x) w w' Q h = (ap (λ (x : Week). x.sheet) h.0, h.1)
+sheet_kept {State} (Err x) w w' Q h = (ap (λ (x : Week State). x.sheet) h.0, h.1)
 
 -- a load enters what was handed in
 pub load_entered : {P T E : Type 0} (r : Result T E) (pairs : Pairs) (possible : ℕ → ℕ → Bool) (xs xs'' ys ys'' : List P) (here : Sides Bool)

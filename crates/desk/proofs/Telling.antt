@@ -3,13 +3,13 @@ use Rattle.std.proofs.Common.{◌≡◌, ℕ, ◌+◌, ◌-◌, Bool, leb, List,
 use lib.Seq.{take-append_seam}
 use Rattle.refusal.specs.Refusals.{first_refusal}
 use Rattle.source.specs.Pairs.{Pairs}
-use Rattle.plan.specs.Parts.{fits}
+use Rattle.plan.specs.Parts.{fits, whole_refusals}
 use Rattle.plan.specs.Held.{Sides, held}
 use Rattle.week.specs.declared.Sheet.{Sheet}
 use Rattle.week.specs.Calls.{certificate_refusals}
 use Rattle.week.specs.Sheets.{plan_in, certificate_in, entry_count, over}
 use Rattle.desk.specs.Ledger.{account, in_order}
-use Rattle.desk.specs.Told.{Told, refused, unless_refused}
+use Rattle.desk.specs.Told.{Told, refused, unless_refused, or_refused}
 use Rattle.plan.specs.declared.Plan.{Plan}
 use Rattle.desk.specs.declared.calls.Question.{Question}
 use Rattle.desk.specs.Moments.{judged, answer_question}
@@ -22,6 +22,14 @@ accepted_told found t u none e = e ∙ ap (λ (o : Option ℕ). unless_refused o
 -- where one does, its refusal is
 pub refused_told : (found : Option ℕ) (n : ℕ) (u : Told) → Some n ≡ found → refused n ≡ unless_refused found u
 refused_told found n u some = ap (λ (o : Option ℕ). unless_refused o u) some
+
+-- what a question about the whole plan was answered, for the plan that was handed on
+pub whole_told : {P : Type 0} (pairs : Pairs) (possible : ℕ → ℕ → Bool) (xs ys : List P) (t : Told) (u : Plan → Told) (plan plan' : Plan) → plan ≡ plan'
+    → None ≡ first_refusal (whole_refusals (fits pairs xs ys (held plan))) → t ≡ u plan → t ≡ or_refused (whole_refusals (in_order (account pairs possible xs ys (held plan').attendance))) (u plan')
+whole_told pairs possible xs ys t u plan plan' same none e =
+    accepted_told _ t (u plan')
+    (none ∙ ap {B = Option ℕ} (λ (p : Plan). first_refusal (whole_refusals (fits pairs xs ys (held p)))) same ∙ ap {B = Option ℕ} (λ (b : Bool). first_refusal (whole_refusals b)) (plan_in_order plan' pairs possible xs ys))
+    (e ∙ ap u same)
 
 -- the tests of the certificate, by the week's sheet and by the ledger
 pub certificate_tests : {P : Type 0} (sheet : Sheet) (pairs : Pairs) (possible : ℕ → ℕ → Bool) (xs ys : List P) (room room' : ℕ) → room ≡ room'

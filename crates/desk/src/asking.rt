@@ -1,11 +1,8 @@
 //! The questions of a week, open or handed over, and the pages of one that is handed over.
-ghost use Rattle.std.specs.Prelude.{◌≡◌, ℕ, Bool, OnOk, OnErr, IfOk, length};
-ghost use Rattle.refusal.specs.Refusals.{refusal_of, first_refusal};
-ghost use Rattle.matching.specs.Check.{passes};
-ghost use Rattle.matching.specs.Lists.{plan_of, certificate_of};
-ghost use Rattle.plan.specs.Parts.{ranked, fit_with, board_with, whole_refusals};
-ghost use Rattle.week.specs.Calls.{certificate_refusals};
-ghost use Rattle.week.specs.Sheets.{plan_in, certificate_in, entry_count, over};
+ghost use Rattle.std.specs.Prelude.{◌≡◌, ℕ, Bool, List};
+ghost use Rattle.plan.specs.Held.{held};
+ghost use Rattle.plan.specs.Parts.{ranked, whole_refusals};
+ghost use Rattle.week.specs.Sheets.{plan_in, certificate_in};
 ghost use Rattle.filing.specs.Filed.{page_of};
 ghost use Rattle.desk.specs.Ledger.{account, in_order};
 ghost use Rattle.desk.specs.Told.{told, or_refused, page};
@@ -17,25 +14,35 @@ use crate::standing::Standing;
 use filing::{ENTRIES, Wanted, write_page};
 use judge::judge;
 use page_writer::PageText;
+use plan::Plan;
 use plan::parts::Parts;
 use priority::Priority;
-use refusal::Refusal;
 use source::PairSource;
 use week::FiledWeek;
+
+/// Whether the plan passes with the certificate.
+fn judge_with<S: PairSource, P: Priority + Copy>(
+    plan: &Plan,
+    parts: &Parts<S, P>,
+    certificate: &[u16],
+) -> Served
+    ensures { (possible : ℕ → ℕ → Bool) (stored : List ℕ) → told result ≡ judged P.Priority.reaches (account (S.PairSource.pairs parts.now.source.now) possible (ranked parts.now.programmes.now) (ranked parts.now.slots.now) (held plan.now).attendance) (held plan.now).slot_of stored certificate.now }
+{
+    Ok(Answer::Verdict(judge(plan, parts, certificate)?))
+}
 
 /// Whether the plan passes with the stored certificate.
 fn judge_stored<S: PairSource, P: Priority + Copy>(
     standing: &Standing,
     parts: &Parts<S, P>,
-) -> Result<bool, Refusal>
-    ensures answer { refusal_of result ≡ first_refusal (whole_refusals (fit_with S.PairSource.pairs parts.now (plan_in (sheet_of standing.now)))) }
-    ensures passes { IfOk result (λ passed. passed ≡ passes (board_with P.Priority.reaches S.PairSource.pairs parts.now (plan_in (sheet_of standing.now))) (plan_of (plan_in (sheet_of standing.now)).slot_of) (certificate_of (length (ranked parts.now.programmes.now)) (certificate_in (sheet_of standing.now)))) }
+) -> Served
+    ensures { (possible : ℕ → ℕ → Bool) → told result ≡ judged P.Priority.reaches (account (S.PairSource.pairs parts.now.source.now) possible (ranked parts.now.programmes.now) (ranked parts.now.slots.now) (plan_in (sheet_of standing.now)).attendance) (plan_in (sheet_of standing.now)).slot_of (certificate_in (sheet_of standing.now)) (certificate_in (sheet_of standing.now)) }
 {
     let mut entries = [0; ENTRIES];
     standing.certificate(parts, &mut entries)?;
     let stored = standing.stored();
     let count = stored.programmes().len() + stored.slots().len();
-    judge(standing.plan(), parts, &entries[0..count])
+    judge_with(standing.plan(), parts, &entries[0..count])
 }
 
 /// Answers a question about a week and its parts.
@@ -56,8 +63,8 @@ pub(crate) fn ask<S: PairSource, P: Priority + Copy>(
             standing.certificate(parts, &mut table)?;
             Ok(Answer::Certificate(table))
         }
-        Question::Judge(certificate) => Ok(Answer::Verdict(judge(plan, parts, &certificate)?)),
-        Question::JudgeStored => Ok(Answer::Verdict(judge_stored(standing, parts)?)),
+        Question::Judge(certificate) => judge_with(plan, parts, &certificate),
+        Question::JudgeStored => judge_stored(standing, parts),
     }
 }
 

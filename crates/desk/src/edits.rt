@@ -75,8 +75,22 @@ fn make_plain<S: PairSource, P: Priority + Copy>(
 {
     match edit {
         Edit::Rank(member, priority) => week.rank(source, programmes, slots, member, priority),
-        Edit::Withdraw(member) => week.withdraw(&Parts { source, programmes: &*programmes, slots: &*slots }, member),
-        Edit::Restore(member) => week.restore(&Parts { source, programmes: &*programmes, slots: &*slots }, member),
+        Edit::Withdraw(member) => week.withdraw(
+            &Parts {
+                source,
+                programmes: &*programmes,
+                slots: &*slots,
+            },
+            member,
+        ),
+        Edit::Restore(member) => week.restore(
+            &Parts {
+                source,
+                programmes: &*programmes,
+                slots: &*slots,
+            },
+            member,
+        ),
     }
 }
 

@@ -40,7 +40,11 @@ pub(crate) fn load_week<S: PairSource, P: Priority + Copy>(
 {
     let programmes = Ranking::new(programmes);
     let slots = Ranking::new(slots);
-    week.load(&Parts { source, programmes: &programmes, slots: &slots })
+    week.load(&Parts {
+        source,
+        programmes: &programmes,
+        slots: &slots,
+    })
 }
 
 /// Makes the edit on the week, the source and the lists.
@@ -74,7 +78,15 @@ pub(crate) fn ask_week<S: PairSource, P: Priority + Copy>(
 {
     let programmes = Ranking::new(programmes);
     let slots = Ranking::new(slots);
-    ask(standing, &Parts { source, programmes: &programmes, slots: &slots }, question)
+    ask(
+        standing,
+        &Parts {
+            source,
+            programmes: &programmes,
+            slots: &slots,
+        },
+        question,
+    )
 }
 
 /// Writes the page of the week with the lists.
@@ -91,5 +103,14 @@ pub(crate) fn write_page<S: PairSource, P: Priority + Copy>(
 {
     let programmes = Ranking::new(programmes);
     let slots = Ranking::new(slots);
-    page_answer(week, &Parts { source, programmes: &programmes, slots: &slots }, wanted, text)
+    page_answer(
+        week,
+        &Parts {
+            source,
+            programmes: &programmes,
+            slots: &slots,
+        },
+        wanted,
+        text,
+    )
 }

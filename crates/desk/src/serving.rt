@@ -32,7 +32,12 @@ impl<S: PairSource + Drop, P: Priority + Copy> Desk<S, P> {
     }
 
     /// A load, which only an open week offers. The kind of edits E says what the ledger enters as possible.
-    fn load<E: EditKind<S, P>>(&mut self, source: S, mut programmes: Vec<P>, mut slots: Vec<P>) -> Served
+    fn load<E: EditKind<S, P>>(
+        &mut self,
+        source: S,
+        mut programmes: Vec<P>,
+        mut slots: Vec<P>,
+    ) -> Served
         ensures { Step (meaning S.PairSource.pairs P.Priority.reaches E.EditKind.rules) self.old (Call.Load source programmes slots) result self.new }
     {
         let Standing::Open(week) = &mut self.standing else {
@@ -92,7 +97,10 @@ impl<S: PairSource + Drop, P: Priority + Copy> Desk<S, P> {
     }
 
     /// Works a call. The desk comes back with what the call came to.
-    pub(crate) fn serve<E: EditKind<S, P> + Drop>(mut self, call: Call<S, P, E>) -> (Desk<S, P>, Served)
+    pub(crate) fn serve<E: EditKind<S, P> + Drop>(
+        mut self,
+        call: Call<S, P, E>,
+    ) -> (Desk<S, P>, Served)
         ensures { Step (meaning S.PairSource.pairs P.Priority.reaches E.EditKind.rules) self call result.1 result.0 }
     {
         let served = match call {

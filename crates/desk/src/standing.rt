@@ -68,10 +68,7 @@ impl Standing {
     {
         match self {
             Standing::Open(week) => (Standing::HandedOver(week.hand_over()), Ok(Answer::Done)),
-            Standing::HandedOver(week) => (
-                Standing::HandedOver(week),
-                Err(Unserved::NotOffered),
-            ),
+            Standing::HandedOver(week) => (Standing::HandedOver(week), Err(Unserved::NotOffered)),
         }
     }
 
