@@ -12,10 +12,10 @@ use Rattle.matching.specs.Certificate.{blocks}
 use Rattle.matching.specs.Check.{Within, pair_lawful, lawful, unplaced_names_itself, slot_blocked, naming_right, rules}
 use Rattle.matching.specs.Lists.{plan_of}
 use Rattle.matching.proofs.Lists.{plan_parts, plan_from, one_slot, one_programme, points_at, entry_within, placed_is}
-use Rattle.judge.specs.Handed.{Parts, turn_parts, Fit, board_in}
+use Rattle.judge.specs.Handed.{Handed, turn_handed, Fit, board_in}
 use Rattle.judge.specs.Tests.{left_out, slot_kept, keeps, stands}
 
-pub turn_fit : {P : Type 0} {t : Parts P} → Fit t → Fit (turn_parts t)
+pub turn_fit : {P : Type 0} {t : Handed P} → Fit t → Fit (turn_handed t)
 turn_fit ok = record {
   programmes = ok.slots;
   slots = ok.programmes;
@@ -34,7 +34,7 @@ and_swap true false c = refl
 and_swap false true c = refl
 and_swap false false c = refl
 
-pub board_turned : {P : Type 0} (f : P → P → Bool) (t : Parts P) → board_in f (turn_parts t) ≡ turn (board_in f t)
+pub board_turned : {P : Type 0} (f : P → P → Bool) (t : Handed P) → board_in f (turn_handed t) ≡ turn (board_in f t)
 board_turned f t =
     let p = t.pairs in
     let same : (λ (s i : ℕ). holds (turned p) s i) ≡ (λ (s i : ℕ). holds p i s) = fun_ext (λ s. fun_ext (λ i. and_swap (within p.slots s) (within p.programmes i) (p.allowed i s))) in
@@ -61,7 +61,7 @@ swap false false c = refl
 swap false true c = refl
 swap true b c = refl
 
-module _ {P : Type 0} (f : P → P → Bool) (t : Parts P) (ok : Fit t) where
+module _ {P : Type 0} (f : P → P → Bool) (t : Handed P) (ok : Fit t) where
   abbrev B : Board f
   B = board_in f t
 
@@ -127,7 +127,7 @@ module _ {P : Type 0} (f : P → P → Bool) (t : Parts P) (ok : Fit t) where
       slot_attends s = same_if _ _ (λ h. (and_parts (within m s) _ h).1) (λ h. and_from (within m s) _ (subst (λ (k : ℕ). within k s ≡ true) ok.slots_present (mark_within t.plan.attendance.slots s h)) h)
 
 -- ---- the rules
-module _ {P : Type 0} (f : P → P → Bool) (t : Parts P) (ok : Fit t) (names : List ℕ) where
+module _ {P : Type 0} (f : P → P → Bool) (t : Handed P) (ok : Fit t) (names : List ℕ) where
   abbrev C : Board f
   C = board_in f t
 
@@ -137,7 +137,7 @@ module _ {P : Type 0} (f : P → P → Bool) (t : Parts P) (ok : Fit t) (names :
   blocked_is : (i s : ℕ) → within (length t.slots) s ≡ true → slot_blocked C plan (at 0 names) i s ≡ slot_kept f t names i s
   blocked_is i s w =
       let s0 = (within_bounds _ s w).0 in
-      ap (λ b. (b && holds t.pairs i s) implies any (blocks C plan (at 0 names) (at 0 names i) s) (length t.programmes)) (free_is f (turn_parts t) (turn_fit ok) s)
+      ap (λ b. (b && holds t.pairs i s) implies any (blocks C plan (at 0 names) (at 0 names i) s) (length t.programmes)) (free_is f (turn_handed t) (turn_fit ok) s)
       ∙ ap (λ b. (at false t.plan.attendance.slots s && holds t.pairs i s) implies b) (holder_is f t ok names (at 0 names i) s (omega arith))
       ∙ swap (at false t.plan.attendance.slots s) (holds t.pairs i s) _
 
@@ -168,7 +168,7 @@ implies_at : (a b : Bool) → (a implies b) ≡ true → a ≡ true → b ≡ tr
 implies_at true b h e = h
 implies_at false b h e = absurd (false≢true e)
 
-module _ {P : Type 0} (f : P → P → Bool) (t : Parts P) (ok : Fit t) where
+module _ {P : Type 0} (f : P → P → Bool) (t : Handed P) (ok : Fit t) where
   abbrev D : Board f
   D = board_in f t
 

@@ -7,11 +7,11 @@ use Rattle.refusal.proofs.First.{first_some, first_none}
 use Rattle.source.specs.Pairs.{holds, first_slot}
 use Rattle.matching.specs.Check.{rules}
 use Rattle.matching.specs.Lists.{plan_of}
-use Rattle.judge.specs.Handed.{Parts, Fit, board_in}
+use Rattle.judge.specs.Handed.{Handed, Fit, board_in}
 use Rattle.judge.specs.Tests.{well_named, blocked, slot_kept, keeps}
 use Rattle.judge.proofs.Boards.{rules_is}
 
-module _ {P : Type 0} (f : P → P → Bool) (t : Parts P) (names : List ℕ) (x : ℕ) where
+module _ {P : Type 0} (f : P → P → Bool) (t : Handed P) (names : List ℕ) (x : ℕ) where
   abbrev pub Well : Bool → Type 0
   Well b = b ≡ well_named f t.programmes t.plan.attendance.programmes t.plan.slot_of names x
 
@@ -36,10 +36,10 @@ module _ {P : Type 0} (f : P → P → Bool) (t : Parts P) (names : List ℕ) (x
   not_allowed : (s : ℕ) → holds t.pairs x s ≡ false → slot_kept f t names x s ≡ true
   not_allowed s e = or_left _ _ (not_from_false _ e)
 
-pub start : {P : Type 0} (f : P → P → Bool) (t : Parts P) (names : List ℕ) → Tried f t names 1 true
+pub start : {P : Type 0} (f : P → P → Bool) (t : Handed P) (names : List ℕ) → Tried f t names 1 true
 start f t names = record { kept_so_far = refl; low = omega arith; before = passed_none _ }
 
-module _ {P : Type 0} {f : P → P → Bool} {t : Parts P} {names : List ℕ} {x : ℕ} where
+module _ {P : Type 0} {f : P → P → Bool} {t : Handed P} {names : List ℕ} {x : ℕ} where
   next : {kept : Bool} → Tried f t names x kept → keeps f t names x ≡ true → Tried f t names (x + 1) kept
   next i here = record { kept_so_far = i.kept_so_far; low = omega arith; before = passed_more _ x i.before here }
 

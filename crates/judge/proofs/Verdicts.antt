@@ -13,11 +13,11 @@ use Rattle.matching.proofs.Lists.{plan_turned}
 use Rattle.plan.specs.Held.{Held}
 use Rattle.plan.specs.Parts.{fits}
 use Rattle.plan.proofs.Asked.{fit_counts}
-use Rattle.judge.specs.Handed.{all_fit, Parts, Fit, board_in}
+use Rattle.judge.specs.Handed.{all_fit, Handed, Fit, board_in}
 use Rattle.judge.specs.Tests.{stands, verdict}
 use Rattle.judge.proofs.Boards.{board_turned, within_plan, lawful_is}
 
-module _ {P : Type 0} (f : P → P → Bool) (t : Parts P) (certificate : List ℕ) where
+module _ {P : Type 0} (f : P → P → Bool) (t : Handed P) (certificate : List ℕ) where
   abbrev D : Board f
   D = board_in f t
 
@@ -42,7 +42,7 @@ module _ {P : Type 0} (f : P → P → Bool) (t : Parts P) (certificate : List �
 
 -- ---- from the plan that was handed in to the view of it
 module _ {P : Type 0} (pairs : Pairs) (xs ys : List P) (h : Held) where
-  abbrev pub handed : Parts P
+  abbrev pub handed : Handed P
   handed = record { pairs = pairs; programmes = xs; slots = ys; plan = h }
 
   pub fit_of : true ≡ fits pairs xs ys h → Points h.slot_of h.programme_in → Points h.programme_in h.slot_of → length h.attendance.programmes ≡ length h.slot_of → length h.attendance.slots ≡ length h.programme_in → Fit handed
@@ -75,9 +75,9 @@ module _ {P : Type 0} (pairs : Pairs) (xs ys : List P) (h : Held) where
       (sym a, omega (arith, eqb-true _ _ b, counts.2, counts.3))
 
 -- the verdict on what is seen is the answer of `passes` on what was handed in
-pub judged : {P : Type 0} (f : P → P → Bool) (certificate programme-names slot-names : List ℕ) (k : ℕ) (r : Bool) (t' t : Parts P) → t' ≡ t → Fit t → k ≡ length t.programmes → programme-names ≡ take k certificate → slot-names ≡ drop k certificate → r ≡ verdict f t' programme-names slot-names → r ≡ passing f t certificate
-judged f certificate programme-names slot-names k r t' t e ok count front back v =
-    v ∙ ap (λ u. verdict f u programme-names slot-names) e
-    ∙ ap (λ xs. verdict f t xs slot-names) (front ∙ ap (λ n. take n certificate) count)
+pub judged : {P : Type 0} (f : P → P → Bool) (certificate programme_names slot_names : List ℕ) (k : ℕ) (r : Bool) (t' t : Handed P) → t' ≡ t → Fit t → k ≡ length t.programmes → programme_names ≡ take k certificate → slot_names ≡ drop k certificate → r ≡ verdict f t' programme_names slot_names → r ≡ passing f t certificate
+judged f certificate programme_names slot_names k r t' t e ok count front back v =
+    v ∙ ap (λ u. verdict f u programme_names slot_names) e
+    ∙ ap (λ xs. verdict f t xs slot_names) (front ∙ ap (λ n. take n certificate) count)
     ∙ ap (verdict f t (take (length t.programmes) certificate)) (back ∙ ap (λ n. drop n certificate) count)
     ∙ sym (passing_is f t certificate ok)

@@ -4,7 +4,8 @@ use Rattle.source.specs.Pairs.{Pairs, turned}
 use Rattle.matching.specs.Board.{Board}
 use Rattle.matching.specs.Lists.{Points}
 use Rattle.plan.specs.Held.{Held, turned_sides}
-use Rattle.plan.specs.Parts.{fits, board_of}
+use Rattle.plan.specs.declared.parts.Parts.{Parts}
+use Rattle.plan.specs.Parts.{ranked, fits, board_of}
 use Rattle.judge.specs.declared.view.View.{View}
 
 -- Source, rankings and plan fit together, and the certificate has one entry for each programme and each slot.
@@ -15,15 +16,22 @@ all_fit pairs programmes slots plan certificate = fits pairs programmes slots pl
 abbrev pub judge_refusals : {P : Type 0} → Pairs → List P → List P → Held → List ℕ → List (Bool × ℕ)
 judge_refusals pairs programmes slots plan certificate = (not (all_fit pairs programmes slots plan certificate), 12) ∷ []
 
--- The parts that are handed in, as values.
-pub record Parts (P : Type 0) : Type 0 where
+-- Both of the parts handed in, a plan and a certificate.
+abbrev pub all_fit_with : {S P : Type 0} → (S → Pairs) → Parts S P → Held → List ℕ → Bool
+all_fit_with pairs parts plan certificate = all_fit (pairs parts.source.now) (ranked parts.programmes.now) (ranked parts.slots.now) plan certificate
+
+abbrev pub judge_refusals_with : {S P : Type 0} → (S → Pairs) → Parts S P → Held → List ℕ → List (Bool × ℕ)
+judge_refusals_with pairs parts plan certificate = judge_refusals (pairs parts.source.now) (ranked parts.programmes.now) (ranked parts.slots.now) plan certificate
+
+-- What is handed in, as values.
+pub record Handed (P : Type 0) : Type 0 where
   pub pairs : Pairs
   pub programmes : List P
   pub slots : List P
   pub plan : Held
 
 -- What a view shows of them.
-abbrev pub shown : {S P : Type 0} → (S → Pairs) → View S P → Parts P
+abbrev pub shown : {S P : Type 0} → (S → Pairs) → View S P → Handed P
 shown pairs view = record {
   pairs = pairs view.source.now;
   programmes = view.programmes.now;
@@ -35,16 +43,16 @@ shown pairs view = record {
   };
 }
 
--- The parts with their sides exchanged.
-abbrev pub turn_parts : {P : Type 0} → Parts P → Parts P
-turn_parts t = record { pairs = turned t.pairs; programmes = t.slots; slots = t.programmes; plan = turned_sides t.plan }
+-- What is handed in, with their sides exchanged.
+abbrev pub turn_handed : {P : Type 0} → Handed P → Handed P
+turn_handed t = record { pairs = turned t.pairs; programmes = t.slots; slots = t.programmes; plan = turned_sides t.plan }
 
--- The board of the parts.
-abbrev pub board_in : {P : Type 0} (reaches : P → P → Bool) → Parts P → Board reaches
+-- The board that it stands for.
+abbrev pub board_in : {P : Type 0} (reaches : P → P → Bool) → Handed P → Board reaches
 board_in reaches t = board_of reaches t.pairs t.programmes t.slots t.plan.attendance
 
 -- The tables are as long as the source says, and those of the plan agree.
-pub record Fit {P : Type 0} (t : Parts P) : Type 0 where
+pub record Fit {P : Type 0} (t : Handed P) : Type 0 where
   pub programmes : t.pairs.programmes ≡ length t.programmes
   pub slots : t.pairs.slots ≡ length t.slots
   pub slot_of : length t.plan.slot_of ≡ length t.programmes

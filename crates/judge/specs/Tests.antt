@@ -6,7 +6,7 @@ use Rattle.refusal.specs.Tables.{at, holds_at}
 use Rattle.source.specs.Pairs.{holds}
 use Rattle.matching.specs.Check.{rules}
 use Rattle.matching.specs.Lists.{plan_of}
-use Rattle.judge.specs.Handed.{Parts, turn_parts, board_in}
+use Rattle.judge.specs.Handed.{Handed, turn_handed, board_in}
 
 -- Member k is present, and has no place.
 abbrev pub left_out : List Bool → List ℕ → ℕ → Bool
@@ -22,7 +22,7 @@ well_named reaches priorities present places names k =
 abbrev pub blocked : {P : Type 0} → (P → P → Bool) → List P → List Bool → List ℕ → List ℕ → ℕ → ℕ → Bool
 blocked reaches priorities slots_present programme_in names w s = at false slots_present s implies holds_at reaches priorities (at 0 names (at 0 programme_in s)) w
 
-module _ {P : Type 0} (reaches : P → P → Bool) (t : Parts P) (names : List ℕ) where
+module _ {P : Type 0} (reaches : P → P → Bool) (t : Handed P) (names : List ℕ) where
   -- Rule 3 of programme i at slot s.
   abbrev pub slot_kept : ℕ → ℕ → Bool
   slot_kept i s = holds t.pairs i s implies blocked reaches t.programmes t.plan.attendance.slots t.plan.programme_in names (at 0 names i) s
@@ -34,7 +34,7 @@ module _ {P : Type 0} (reaches : P → P → Bool) (t : Parts P) (names : List �
       && (at 0 names i == 0 || all (slot_kept i) (length t.slots))
 
 -- Programme i has no slot, or it and its slot are present and the pair is allowed.
-abbrev pub stands : {P : Type 0} → Parts P → ℕ → Bool
+abbrev pub stands : {P : Type 0} → Handed P → ℕ → Bool
 stands t i =
     (at 0 t.plan.slot_of i == 0)
     || (at false t.plan.attendance.programmes i
@@ -42,8 +42,8 @@ stands t i =
     && holds t.pairs i (at 0 t.plan.slot_of i)))
 
 -- The verdict: each pair may stand, the programmes keep the rules, and so do the slots.
-abbrev pub verdict : {P : Type 0} → (P → P → Bool) → Parts P → List ℕ → List ℕ → Bool
-verdict reaches t programme-names slot-names =
+abbrev pub verdict : {P : Type 0} → (P → P → Bool) → Handed P → List ℕ → List ℕ → Bool
+verdict reaches t programme_names slot_names =
     all (stands t) t.pairs.programmes
-    && (rules (board_in reaches t) (plan_of t.plan.slot_of) (at 0 programme-names)
-    && rules (board_in reaches (turn_parts t)) (plan_of t.plan.programme_in) (at 0 slot-names))
+    && (rules (board_in reaches t) (plan_of t.plan.slot_of) (at 0 programme_names)
+    && rules (board_in reaches (turn_handed t)) (plan_of t.plan.programme_in) (at 0 slot_names))

@@ -11,18 +11,17 @@ ghost use Rattle.matching.specs.Board.{Best};
 ghost use Rattle.matching.specs.Check.{passes as passing};
 ghost use Rattle.matching.specs.Lists.{plan_of, certificate_of};
 ghost use Rattle.plan.specs.Held.{held};
-ghost use Rattle.plan.specs.Parts.{ranked, board_of};
-ghost use Rattle.judge.specs.Handed.{all_fit, judge_refusals, shown, Fit};
+ghost use Rattle.plan.specs.Parts.{ranked, board_with};
+ghost use Rattle.judge.specs.Handed.{all_fit_with, judge_refusals_with, shown, Fit};
 ghost use Rattle.judge.specs.Tests.{verdict};
 
 mod rules;
 mod view;
 
-use crate::rules::{is_lawful, keeps_rules};
 use crate::view::View;
 use plan::Plan;
+use plan::parts::Parts;
 use priority::Priority;
-use priority::ranking::Ranking;
 use refusal::Refusal;
 use source::PairSource;
 use source::turned::Turned;
@@ -46,48 +45,45 @@ fn is_passed<S: PairSource, P: Priority>(
         slot_of: view.programme_in,
         programme_in: view.slot_of,
     };
-    is_lawful(view) && keeps_rules(view, programme_names) && keeps_rules(&turned, slot_names)
+    view.is_lawful() && view.keeps_rules(programme_names) && turned.keeps_rules(slot_names)
 }
 
 /// Whether source, rankings, plan and certificate fit together.
 fn all_fit<S: PairSource, P: Priority + Copy>(
     plan: &Plan,
-    source: &S,
-    programmes: &Ranking<P>,
-    slots: &Ranking<P>,
+    parts: &Parts<S, P>,
     certificate: &[u16],
 ) -> bool
-    ensures { result ≡ all_fit (S.PairSource.pairs source.now) (ranked programmes.now) (ranked slots.now) (held plan.now) certificate.now }
+    ensures { result ≡ all_fit_with S.PairSource.pairs parts.now (held plan.now) certificate.now }
 {
-    plan.fits(source, programmes, slots)
-        && certificate.len() == source.programmes() as usize + source.slots() as usize
+    let programmes = parts.source.programmes() as usize;
+    let slots = parts.source.slots() as usize;
+    plan.fits(parts) && certificate.len() == programmes + slots
 }
 
 /// Whether the plan passes with the certificate: one entry for each programme, then one for each slot.
 /// Refuses 12 where source, rankings, plan and certificate do not fit together.
-pub fn judge<'a, S: PairSource, P: Priority + Copy>(
-    plan: &'a Plan,
-    source: &'a S,
-    programmes: &'a Ranking<P>,
-    slots: &'a Ranking<P>,
+pub fn judge<S: PairSource, P: Priority + Copy>(
+    plan: &Plan,
+    parts: &Parts<S, P>,
     certificate: &[u16],
 ) -> Result<bool, Refusal>
-    ensures answer { refusal_of result ≡ first_refusal (judge_refusals (S.PairSource.pairs source.now) (ranked programmes.now) (ranked slots.now) (held plan.now) certificate.now) }
-    ensures passes { IfOk result (λ passed. passed ≡ passing (board_of P.Priority.reaches (S.PairSource.pairs source.now) (ranked programmes.now) (ranked slots.now) (held plan.now).attendance) (plan_of (held plan.now).slot_of) (certificate_of (length (ranked programmes.now)) certificate.now)) }
-    ensures best { IfOk result (λ passed. passed ≡ true → Best (board_of P.Priority.reaches (S.PairSource.pairs source.now) (ranked programmes.now) (ranked slots.now) (held plan.now).attendance) (plan_of (held plan.now).slot_of)) }
+    ensures answer { refusal_of result ≡ first_refusal (judge_refusals_with S.PairSource.pairs parts.now (held plan.now) certificate.now) }
+    ensures passes { IfOk result (λ passed. passed ≡ passing (board_with P.Priority.reaches S.PairSource.pairs parts.now (held plan.now)) (plan_of (held plan.now).slot_of) (certificate_of (length (ranked parts.now.programmes.now)) certificate.now)) }
+    ensures best { IfOk result (λ passed. passed ≡ true → Best (board_with P.Priority.reaches S.PairSource.pairs parts.now (held plan.now)) (plan_of (held plan.now).slot_of)) }
 {
-    if !all_fit(plan, source, programmes, slots, certificate) {
+    if !all_fit(plan, parts, certificate) {
         return Err(Refusal::Mismatch);
     }
     let view = View {
-        source,
-        programmes: programmes.as_slice(),
-        slots: slots.as_slice(),
+        source: parts.source,
+        programmes: parts.programmes.as_slice(),
+        slots: parts.slots.as_slice(),
         programmes_present: plan.programmes_present(),
         slots_present: plan.slots_present(),
         slot_of: plan.slot_of_table(),
         programme_in: plan.programme_in_table(),
     };
-    let (programme_names, slot_names) = certificate.split_at(programmes.len());
+    let (programme_names, slot_names) = certificate.split_at(parts.programmes.len());
     Ok(is_passed(&view, programme_names, slot_names))
 }

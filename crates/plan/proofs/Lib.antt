@@ -1,3 +1,4 @@
+pub mod Numbers
 pub mod Writing
 pub mod Pairing
 pub mod Asked

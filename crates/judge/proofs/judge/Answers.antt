@@ -9,9 +9,9 @@ pub returns : goal.returns
 returns g c =
     let f = g.P.Priority.reaches in
     let laws = g.met.P.Priority in
-    let p = g.S.PairSource.pairs c.args.source.now in
-    let xs = ranked c.args.programmes.now in
-    let ys = ranked c.args.slots.now in
+    let p = g.S.PairSource.pairs c.args.parts.now.source.now in
+    let xs = ranked c.args.parts.now.programmes.now in
+    let ys = ranked c.args.parts.now.slots.now in
     let v = c.args.plan.now in
     let all = c.if-not-all_fit.ensures in
     let ok = (parts_of p xs ys (held v) c.args.certificate.now all).0 in

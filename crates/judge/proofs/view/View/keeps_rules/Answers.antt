@@ -2,7 +2,7 @@ use Rattle.std.proofs.Common.{sym, arith}
 use Rattle.refusal.proofs.First.{first_some}
 use Rattle.source.specs.Pairs.{holds}
 use Rattle.judge.proofs.Turns.{start, ask, unnamed, ask_next, asked_all, all_kept, ill_named, not_blocked}
-use Rattle.judge.proofs.rules.keeps_rules.Goals as goal
+use Rattle.judge.proofs.view.View.keeps_rules.Goals as goal
 
 pub rules-init : goal.rules-init
 rules-init g c = start _ _ _
@@ -15,7 +15,7 @@ loop-slot-init g c = ask c.rules.invariant c.if-not-names_well.ensures c.entry-n
 
 pub loop-slot-smaller : goal.loop-slot-smaller
 loop-slot-smaller g c =
-    let p = g.S.PairSource.pairs c.args.view.now.source.now in
+    let p = g.S.PairSource.pairs c.args.self.now.source.now in
     let r = first_some (λ s. holds p c.rules.programme s) p.slots c.loop-slot.from c.in-Some.slot (sym c.in-Some.ensures) in
     omega (arith, r.0, r.1)
 
