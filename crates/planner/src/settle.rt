@@ -9,7 +9,7 @@ ghost use Rattle.matching.specs.Certificate.{Passes};
 ghost use Rattle.matching.specs.Check.{passes as passing};
 ghost use Rattle.matching.specs.Lists.{plan_of, certificate_of};
 ghost use Rattle.plan.specs.Held.{held};
-ghost use Rattle.plan.specs.Parts.{ranked, fits as fit-together, board_of, whole_refusals};
+ghost use Rattle.plan.specs.Parts.{ranked, fit_with, board_of, board_with, whole_refusals};
 ghost use Rattle.search.specs.Outcomes.{side_fits};
 ghost use Rattle.planner.specs.Run.{may_stand, still_slot, AllStand, names_of};
 ghost use Rattle.planner.specs.Settling.{entries};
@@ -19,8 +19,8 @@ use crate::pass::run_pass;
 use crate::tables::zeros;
 use crate::workspace::Workspace;
 use plan::Plan;
+use plan::parts::Parts;
 use priority::Priority;
-use priority::ranking::Ranking;
 use refusal::Refusal;
 use refusal::limits::Num;
 use refusal::tables::entry;
@@ -97,27 +97,25 @@ fn pass_both<S: PairSource, P: Priority>(
 
 /// Drops what is not lawful, then makes both passes, with the names written into the certificate.
 fn renew<S: PairSource, P: Priority + Copy>(
-    source: &S,
-    programmes: &Ranking<P>,
-    slots: &Ranking<P>,
+    parts: &Parts<S, P>,
     plan: &mut Plan,
     certificate: &mut Certificate,
     workspace: &mut Workspace,
 )
-    requires fit { fit-together (S.PairSource.pairs source.now) (ranked programmes.now) (ranked slots.now) (held plan.old) ≡ true }
-    ensures passes { passing (board_of P.Priority.reaches (S.PairSource.pairs source.now) (ranked programmes.now) (ranked slots.now) (held plan.old).attendance) (plan_of (held plan.new).slot_of) (certificate_of (length (ranked programmes.now)) (entries certificate.new)) ≡ true }
-    ensures best { Best (board_of P.Priority.reaches (S.PairSource.pairs source.now) (ranked programmes.now) (ranked slots.now) (held plan.old).attendance) (plan_of (held plan.new).slot_of) }
+    requires fit { fit_with S.PairSource.pairs parts.now (held plan.old) ≡ true }
+    ensures passes { passing (board_with P.Priority.reaches S.PairSource.pairs parts.now (held plan.old)) (plan_of (held plan.new).slot_of) (certificate_of (length (ranked parts.now.programmes.now)) (entries certificate.new)) ≡ true }
+    ensures best { Best (board_with P.Priority.reaches S.PairSource.pairs parts.now (held plan.old)) (plan_of (held plan.new).slot_of) }
     ensures attendance { (held plan.new).attendance ≡ (held plan.old).attendance }
-    ensures counts { (length certificate.new.programmes.items ≡ length (ranked programmes.now)) × (length certificate.new.slots.items ≡ length (ranked slots.now)) }
-    ensures searches { workspace.new.searches ≤ length (ranked programmes.now) + length (ranked slots.now) }
+    ensures counts { (length certificate.new.programmes.items ≡ length (ranked parts.now.programmes.now)) × (length certificate.new.slots.items ≡ length (ranked parts.now.slots.now)) }
+    ensures searches { workspace.new.searches ≤ length (ranked parts.now.programmes.now) + length (ranked parts.now.slots.now) }
 {
-    drop_unlawful(source, plan);
+    drop_unlawful(parts.source, plan);
     zeros(&mut certificate.programmes, plan.programmes());
     zeros(&mut certificate.slots, plan.slots());
     workspace.searches = pass_both(
-        source,
-        programmes.as_slice(),
-        slots.as_slice(),
+        parts.source,
+        parts.programmes.as_slice(),
+        parts.slots.as_slice(),
         plan,
         &mut certificate.programmes,
         &mut certificate.slots,
@@ -132,24 +130,22 @@ fn renew<S: PairSource, P: Priority + Copy>(
 /// parts do not fit together, and then changes nothing. It searches at most once from each programme and
 /// once from each slot; the workspace tells how often.
 pub fn settle<S: PairSource, P: Priority + Copy>(
-    source: &S,
-    programmes: &Ranking<P>,
-    slots: &Ranking<P>,
+    parts: &Parts<S, P>,
     plan: &mut Plan,
     certificate: &mut Certificate,
     workspace: &mut Workspace,
 ) -> Result<(), Refusal>
-    ensures answer { refusal_of result ≡ first_refusal (whole_refusals (fit-together (S.PairSource.pairs source.now) (ranked programmes.now) (ranked slots.now) (held plan.old))) }
+    ensures answer { refusal_of result ≡ first_refusal (whole_refusals (fit_with S.PairSource.pairs parts.now (held plan.old))) }
     ensures kept { OnErr result ((plan.new ≡ plan.old) × (certificate.new ≡ certificate.old) × (workspace.new ≡ workspace.old)) }
-    ensures passes { OnOk result (passing (board_of P.Priority.reaches (S.PairSource.pairs source.now) (ranked programmes.now) (ranked slots.now) (held plan.old).attendance) (plan_of (held plan.new).slot_of) (certificate_of (length (ranked programmes.now)) (entries certificate.new)) ≡ true) }
-    ensures best { OnOk result (Best (board_of P.Priority.reaches (S.PairSource.pairs source.now) (ranked programmes.now) (ranked slots.now) (held plan.old).attendance) (plan_of (held plan.new).slot_of)) }
+    ensures passes { OnOk result (passing (board_with P.Priority.reaches S.PairSource.pairs parts.now (held plan.old)) (plan_of (held plan.new).slot_of) (certificate_of (length (ranked parts.now.programmes.now)) (entries certificate.new)) ≡ true) }
+    ensures best { OnOk result (Best (board_with P.Priority.reaches S.PairSource.pairs parts.now (held plan.old)) (plan_of (held plan.new).slot_of)) }
     ensures attendance { (held plan.new).attendance ≡ (held plan.old).attendance }
-    ensures counts { OnOk result ((length certificate.new.programmes.items ≡ length (ranked programmes.now)) × (length certificate.new.slots.items ≡ length (ranked slots.now))) }
-    ensures searches { OnOk result (workspace.new.searches ≤ length (ranked programmes.now) + length (ranked slots.now)) }
+    ensures counts { OnOk result ((length certificate.new.programmes.items ≡ length (ranked parts.now.programmes.now)) × (length certificate.new.slots.items ≡ length (ranked parts.now.slots.now))) }
+    ensures searches { OnOk result (workspace.new.searches ≤ length (ranked parts.now.programmes.now) + length (ranked parts.now.slots.now)) }
 {
-    if !plan.fits(source, programmes, slots) {
+    if !plan.fits(parts) {
         return Err(Refusal::Mismatch);
     }
-    renew(source, programmes, slots, plan, certificate, workspace);
+    renew(parts, plan, certificate, workspace);
     Ok(())
 }

@@ -14,9 +14,9 @@ use Rattle.planner.proofs.settle.renew.Goals as goal
 
 pub pass_both-workspace-requires : goal.pass_both-workspace-requires
 pass_both-workspace-requires g c =
-    let pairs = g.S.PairSource.pairs c.args.source.now in
-    let xs = ranked c.args.programmes.now in
-    let ys = ranked c.args.slots.now in
+    let pairs = g.S.PairSource.pairs c.args.parts.now.source.now in
+    let xs = ranked c.args.parts.now.programmes.now in
+    let ys = ranked c.args.parts.now.slots.now in
     let plan = c.args.plan.now in
     let dropped = c.drop_unlawful.new.plan in
     let e = c.drop_unlawful.ensures.attendance in
@@ -34,9 +34,9 @@ pass_both-workspace-requires g c =
 pub returns : goal.returns
 returns g c =
     let laws : Ordered g.P.Priority.reaches = record { total = g.met.P.Priority.total; transitive = g.met.P.Priority.transitive } in
-    let pairs = g.S.PairSource.pairs c.args.source.now in
-    let xs = ranked c.args.programmes.now in
-    let ys = ranked c.args.slots.now in
+    let pairs = g.S.PairSource.pairs c.args.parts.now.source.now in
+    let xs = ranked c.args.parts.now.programmes.now in
+    let ys = ranked c.args.parts.now.slots.now in
     let plan = c.args.plan.now in
     let dropped = c.drop_unlawful.new.plan in
     let after = c.pass_both-workspace.new.plan in
