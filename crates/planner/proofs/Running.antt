@@ -10,7 +10,7 @@ use Rattle.priority.specs.Order.{Ordered}
 use Rattle.priority.proofs.Compare.{place_other, place_transitive}
 use Rattle.search.specs.Search.{unmarked}
 use Rattle.search.proofs.Agreement.{mark_pos, mark_in}
-use Rattle.search.proofs.Looking.{unmarked-put}
+use Rattle.search.proofs.Looking.{unmarked_put}
 use Rattle.planner.specs.Pass.{Chosen, Renamed}
 use Rattle.planner.specs.Run.{Setting, setting, stage_of, StateOf, ChosenOf, Clear, Moves, Advanced, waiting, Choice}
 use Rattle.planner.proofs.Passing.{Ranked, Done}
@@ -90,7 +90,7 @@ going_on G slot_of member_in slot_of' member_in' names done root slot-of'' membe
 pub fewer : (G : Setting) (slot_of member_in slot_of' member_in' names' : List ℕ) (done done' : List Bool) (root : ℕ) → length G.members ≤ length done → ChosenOf G slot_of done root → Advanced G slot_of member_in done root slot_of' member_in' names' done' → unmarked done' < unmarked done
 fewer G slot_of member_in slot_of' member_in' names' done done' root len ch a =
     let within = mark_in G.members root ch.free in
-    omega (arith, ap unmarked a.marked, unmarked-put done root (mark_pos G.members root ch.free) (omega arith) ch.new)
+    omega (arith, ap unmarked a.marked, unmarked_put done root (mark_pos G.members root ch.free) (omega arith) ch.new)
 
 -- ---- how many were searched from
 pub none_counted : (f : ℕ → Bool) (n : ℕ) → ((k : ℕ) → f k ≡ false) → count f n ≡ 0

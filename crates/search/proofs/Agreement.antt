@@ -1,6 +1,7 @@
 -- Tables that agree, and what a move of one member, or the emptying of one slot, does to them.
-use Rattle.std.proofs.Common.{◌≡◌, ℕ, zero, suc, ◌<◌, ◌≤◌, Bool, true, false, List, length, get_or, replicate, sym, refl, ap, ◌∙◌, subst, ⊎_elim, arith}
+use Rattle.std.proofs.Common.{◌≡◌, ℕ, zero, suc, ◌<◌, ◌≤◌, Bool, true, false, List, length, replicate, sym, refl, ap, ◌∙◌, subst, ⊎_elim, arith}
 use Rattle.std.proofs.lemmas.Bool.{cases_eq}
+use Rattle.std.proofs.lemmas.Grind.{common_steps}
 use Rattle.refusal.specs.Tables.{at, put}
 use Rattle.refusal.proofs.Counts.{within_bounds}
 use Rattle.refusal.proofs.Entries.{at_within, mark_within, length-put, at-put_same, at-put_other}
@@ -23,17 +24,12 @@ pub mark_pos : (m : List Bool) (k : ℕ) → at false m k ≡ true → 0 < k
 mark_pos m k h = (within_bounds (length m) k (mark_within m k h)).0
 
 -- nobody is marked
-get_false : (n k : ℕ) → get_or (replicate n false) k false ≡ false
-get_false zero k = refl
-get_false (suc n) zero = refl
-get_false (suc n) (suc k) = get_false n k
-
 false_at : (n k : ℕ) → at false (replicate n false) k ≡ false
 false_at n zero = refl
-false_at n (suc k) = get_false n k
+false_at n (suc k) = grind (arith, common_steps)
 
 pub none_marked : (marks : List Bool) (n : ℕ) → marks ≡ replicate n false → (k : ℕ) → at false marks k ≡ false
-none_marked marks n e k = ap (λ (m : List Bool). at false m k) e ∙ false_at n k
+none_marked marks n e k = rw e (false_at n k)
 
 -- ---- moves
 -- member x went from its slot, if it had one, to the slot s

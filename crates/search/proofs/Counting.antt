@@ -23,22 +23,22 @@ pub changes_none : (n : ℕ) (slot_of slot_of' : List ℕ) → ((x : ℕ) → at
 changes_none zero slot_of slot_of' h = refl
 changes_none (suc n) slot_of slot_of' h = omega (arith, changes_none n slot_of slot_of' h, gap_same (at 0 slot_of (suc n)) (at 0 slot_of' (suc n)) (sym (h (suc n))))
 
-pub changes_same : (n : ℕ) (slot_of slot_of' slot-of'' : List ℕ) → ((x : ℕ) → x ≤ n → at 0 slot-of'' x ≡ at 0 slot_of' x) → changes n slot_of slot-of'' ≡ changes n slot_of slot_of'
-changes_same zero slot_of slot_of' slot-of'' h = refl
-changes_same (suc n) slot_of slot_of' slot-of'' h =
-    omega (arith, changes_same n slot_of slot_of' slot-of'' (λ x l. h x (omega arith)), ap (gap (at 0 slot_of (suc n))) (h (suc n) (omega arith)))
+pub changes_same : (n : ℕ) (slot_of slot_of' slot_of'' : List ℕ) → ((x : ℕ) → x ≤ n → at 0 slot_of'' x ≡ at 0 slot_of' x) → changes n slot_of slot_of'' ≡ changes n slot_of slot_of'
+changes_same zero slot_of slot_of' slot_of'' h = refl
+changes_same (suc n) slot_of slot_of' slot_of'' h =
+    omega (arith, changes_same n slot_of slot_of' slot_of'' (λ x l. h x (omega arith)), ap (gap (at 0 slot_of (suc n))) (h (suc n) (omega arith)))
 
 -- one more place changed
-pub changes_one : (n : ℕ) (slot_of slot_of' slot-of'' : List ℕ) (x : ℕ) → 0 < x → x ≤ n → ((y : ℕ) → (y ≡ x → ⊥) → at 0 slot-of'' y ≡ at 0 slot_of' y)
-    → changes n slot_of slot-of'' + gap (at 0 slot_of x) (at 0 slot_of' x) ≡ changes n slot_of slot_of' + gap (at 0 slot_of x) (at 0 slot-of'' x)
-changes_one zero slot_of slot_of' slot-of'' x h l o = absurd (let z : ⊥ = omega arith in z)
-changes_one (suc n) slot_of slot_of' slot-of'' x h l o = ⊎_elim
-    (λ e. let a = changes_same n slot_of slot_of' slot-of'' (λ y b. o y (λ d. omega arith)) in
+pub changes_one : (n : ℕ) (slot_of slot_of' slot_of'' : List ℕ) (x : ℕ) → 0 < x → x ≤ n → ((y : ℕ) → (y ≡ x → ⊥) → at 0 slot_of'' y ≡ at 0 slot_of' y)
+    → changes n slot_of slot_of'' + gap (at 0 slot_of x) (at 0 slot_of' x) ≡ changes n slot_of slot_of' + gap (at 0 slot_of x) (at 0 slot_of'' x)
+changes_one zero slot_of slot_of' slot_of'' x h l o = absurd (let z : ⊥ = omega arith in z)
+changes_one (suc n) slot_of slot_of' slot_of'' x h l o = ⊎_elim
+    (λ e. let a = changes_same n slot_of slot_of' slot_of'' (λ y b. o y (λ d. omega arith)) in
     let b : gap (at 0 slot_of x) (at 0 slot_of' x) ≡ gap (at 0 slot_of (suc n)) (at 0 slot_of' (suc n)) = ap (λ k. gap (at 0 slot_of k) (at 0 slot_of' k)) e in
-    let c : gap (at 0 slot_of x) (at 0 slot-of'' x) ≡ gap (at 0 slot_of (suc n)) (at 0 slot-of'' (suc n)) = ap (λ k. gap (at 0 slot_of k) (at 0 slot-of'' k)) e in
+    let c : gap (at 0 slot_of x) (at 0 slot_of'' x) ≡ gap (at 0 slot_of (suc n)) (at 0 slot_of'' (suc n)) = ap (λ k. gap (at 0 slot_of k) (at 0 slot_of'' k)) e in
     omega arith)
-    (λ e. let a = changes_one n slot_of slot_of' slot-of'' x h (omega arith) o in
-    let b : gap (at 0 slot_of (suc n)) (at 0 slot-of'' (suc n)) ≡ gap (at 0 slot_of (suc n)) (at 0 slot_of' (suc n)) = ap (gap (at 0 slot_of (suc n))) (o (suc n) (λ d. e (sym d))) in
+    (λ e. let a = changes_one n slot_of slot_of' slot_of'' x h (omega arith) o in
+    let b : gap (at 0 slot_of (suc n)) (at 0 slot_of'' (suc n)) ≡ gap (at 0 slot_of (suc n)) (at 0 slot_of' (suc n)) = ap (gap (at 0 slot_of (suc n))) (o (suc n) (λ d. e (sym d))) in
     omega arith)
     (cases_eq x (suc n))
 
@@ -55,10 +55,10 @@ gap_triangle a b c = ⊎_elim
     (cases_eq a c)
 
 -- the changes of two runs, one after the other, are no more than theirs together
-pub changes_triangle : (n : ℕ) (slot_of slot_of' slot-of'' : List ℕ) → changes n slot_of slot-of'' ≤ changes n slot_of slot_of' + changes n slot_of' slot-of''
-changes_triangle zero slot_of slot_of' slot-of'' = omega arith
-changes_triangle (suc n) slot_of slot_of' slot-of'' =
-    omega (arith, changes_triangle n slot_of slot_of' slot-of'', gap_triangle (at 0 slot_of (suc n)) (at 0 slot_of' (suc n)) (at 0 slot-of'' (suc n)))
+pub changes_triangle : (n : ℕ) (slot_of slot_of' slot_of'' : List ℕ) → changes n slot_of slot_of'' ≤ changes n slot_of slot_of' + changes n slot_of' slot_of''
+changes_triangle zero slot_of slot_of' slot_of'' = omega arith
+changes_triangle (suc n) slot_of slot_of' slot_of'' =
+    omega (arith, changes_triangle n slot_of slot_of' slot_of'', gap_triangle (at 0 slot_of (suc n)) (at 0 slot_of' (suc n)) (at 0 slot_of'' (suc n)))
 
 gap_zero : (a b : ℕ) → gap a b ≡ 0 → a ≡ b
 gap_zero zero zero h = refl

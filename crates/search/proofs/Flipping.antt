@@ -137,54 +137,54 @@ module _ (slot_of member_in : List ℕ) (q : List Reached) (i t : ℕ) (ag : Agr
           ∙ sym (one_none (at 0 member_in t) e))
           (cases_lt 0 (at 0 member_in t))
 
-  module _ (slot_of' member_in' : List ℕ) (s k : ℕ) (w : Walking slot_of member_in q i t slot_of' member_in' s k) (slot-of'' member-in'' : List ℕ) (mv : Moved (who q k) s slot_of' member_in' slot-of'' member-in'') where
-    law : (Q : ℕ → ℕ → Bool) → Steps Q q i t → Lawful Q slot_of → Lawful Q slot-of''
+  module _ (slot_of' member_in' : List ℕ) (s k : ℕ) (w : Walking slot_of member_in q i t slot_of' member_in' s k) (slot_of'' member_in'' : List ℕ) (mv : Moved (who q k) s slot_of' member_in' slot_of'' member_in'') where
+    law : (Q : ℕ → ℕ → Bool) → Steps Q q i t → Lawful Q slot_of → Lawful Q slot_of''
     law Q st old x u p e = let l = w.lawful Q st old in ⊎_elim
-        (λ d. let a : u ≡ s = sym e ∙ ap (at 0 slot-of'') d ∙ mv.placed in ap (λ z. Q z u) d ∙ ap (Q (who q k)) a ∙ l.0)
+        (λ d. let a : u ≡ s = sym e ∙ ap (at 0 slot_of'') d ∙ mv.placed in ap (λ z. Q z u) d ∙ ap (Q (who q k)) a ∙ l.0)
         (λ d. l.1 x u p (sym (mv.others x d) ∙ e))
         (cases_eq x (who q k))
 
-    keep : (x : ℕ) → (x ≡ at 0 member_in t → ⊥) → 0 < at 0 slot_of x → 0 < at 0 slot-of'' x
+    keep : (x : ℕ) → (x ≡ at 0 member_in t → ⊥) → 0 < at 0 slot_of x → 0 < at 0 slot_of'' x
     keep x n h = ⊎_elim
-        (λ d. let a : at 0 slot-of'' x ≡ s = ap (at 0 slot-of'') d ∙ mv.placed in omega (arith, w.slot.0))
+        (λ d. let a : at 0 slot_of'' x ≡ s = ap (at 0 slot_of'') d ∙ mv.placed in omega (arith, w.slot.0))
         (λ d. omega (arith, mv.others x d, w.stays x n h)) (cases_eq x (who q k))
 
-    lost : 0 < at 0 member_in t → at 0 slot-of'' (at 0 member_in t) ≡ 0
+    lost : 0 < at 0 member_in t → at 0 slot_of'' (at 0 member_in t) ≡ 0
     lost h = mv.others (at 0 member_in t) (λ e. sh.loser k w.within (sym e)) ∙ w.loses h
 
-    full : (u : ℕ) → (u ≡ at 0 slot_of' (who q k) → ⊥) → 0 < at 0 member_in u → 0 < at 0 member-in'' u
+    full : (u : ℕ) → (u ≡ at 0 slot_of' (who q k) → ⊥) → 0 < at 0 member_in u → 0 < at 0 member_in'' u
     full u n h = ⊎_elim
-        (λ d. let a : at 0 member-in'' u ≡ who q k = ap (at 0 member-in'') d ∙ mv.filled in omega (arith, sh.number k w.within))
+        (λ d. let a : at 0 member_in'' u ≡ who q k = ap (at 0 member_in'') d ∙ mv.filled in omega (arith, sh.number k w.within))
         (λ d. omega (arith, mv.rest u d n, w.filled u d h)) (cases_eq u s)
 
-    bare : (u : ℕ) → (u ≡ t → ⊥) → (u ≡ at 0 slot_of' (who q k) → ⊥) → at 0 member_in u ≡ 0 → at 0 member-in'' u ≡ 0
+    bare : (u : ℕ) → (u ≡ t → ⊥) → (u ≡ at 0 slot_of' (who q k) → ⊥) → at 0 member_in u ≡ 0 → at 0 member_in'' u ≡ 0
     bare u n o e = ⊎_elim
         (λ d. absurd (let a : at 0 member_in u ≡ at 0 member_in s = ap (at 0 member_in) d in let z : ⊥ = omega (arith, w.was (λ b. n (d ∙ b))) in z))
         (λ d. mv.rest u d o ∙ w.only u n e) (cases_eq u s)
 
-    t_full : (t ≡ at 0 slot_of' (who q k) → ⊥) → 0 < at 0 member-in'' t
+    t_full : (t ≡ at 0 slot_of' (who q k) → ⊥) → 0 < at 0 member_in'' t
     t_full n = ⊎_elim
-        (λ d. let a : at 0 member-in'' t ≡ who q k = ap (at 0 member-in'') d ∙ mv.filled in omega (arith, sh.number k w.within))
+        (λ d. let a : at 0 member_in'' t ≡ who q k = ap (at 0 member_in'') d ∙ mv.filled in omega (arith, sh.number k w.within))
         (λ d. omega (arith, mv.rest t d n, w.end (λ b. d (sym b)))) (cases_eq t s)
 
     -- the pairs that are left, after the move
-    next_moved : (x : ℕ) → given_slot (back k q k) x (at 0 slot-of'' x) ≡ flipped slot_of member_in (trail q i t) x
+    next_moved : (x : ℕ) → given_slot (back k q k) x (at 0 slot_of'' x) ≡ flipped slot_of member_in (trail q i t) x
     next_moved x = ⊎_elim
-        (λ e. given_none (back k q k) x (at 0 slot-of'' x) (apart_from k k x w.within (λ j h d. sh.apart j k h w.within (d ∙ sym e)))
-        ∙ ap (at 0 slot-of'') (sym e) ∙ mv.placed
+        (λ e. given_none (back k q k) x (at 0 slot_of'' x) (apart_from k k x w.within (λ j h d. sh.apart j k h w.within (d ∙ sym e)))
+        ∙ ap (at 0 slot_of'') (sym e) ∙ mv.placed
         ∙ sym (cond-true (eqb (who q k) x) s (given_slot (back k q k) x (at 0 slot_of' x)) (eq-eqb (who q k) x e)) ∙ w.moved x)
         (λ n. ap (given_slot (back k q k) x) (mv.others x (λ e. n (sym e)))
         ∙ sym (cond-false (eqb (who q k) x) s (given_slot (back k q k) x (at 0 slot_of' x)) (ne_eqb (who q k) x n)) ∙ w.moved x)
         (cases_eq (who q k) x)
 
     -- what the move changes
-    next_count : (s ≡ at 0 slot_of (who q k) → ⊥) → changes (length slot_of) slot_of slot-of'' ≡ changes (length slot_of) slot_of slot_of' + one (at 0 slot_of (who q k)) + 1
+    next_count : (s ≡ at 0 slot_of (who q k) → ⊥) → changes (length slot_of) slot_of slot_of'' ≡ changes (length slot_of) slot_of slot_of' + one (at 0 slot_of (who q k)) + 1
     next_count n =
         let x = who q k in
-        let a = changes_one (length slot_of) slot_of slot_of' slot-of'' x (sh.number k w.within) (prog_in k w.within) (λ y d. mv.others y d) in
+        let a = changes_one (length slot_of) slot_of slot_of' slot_of'' x (sh.number k w.within) (prog_in k w.within) (λ y d. mv.others y d) in
         let b = gap_same (at 0 slot_of x) (at 0 slot_of' x) (sym (w.still k (omega arith))) in
-        let c = gap_other (at 0 slot_of x) (at 0 slot-of'' x) (λ e. n (sym (e ∙ mv.placed))) in
-        let d = one_of (at 0 slot-of'' x) (omega (arith, mv.placed, w.slot.0)) in
+        let c = gap_other (at 0 slot_of x) (at 0 slot_of'' x) (λ e. n (sym (e ∙ mv.placed))) in
+        let d = one_of (at 0 slot_of'' x) (omega (arith, mv.placed, w.slot.0)) in
         omega arith
 
     module _ (k0 : 0 < k) where
@@ -201,7 +201,7 @@ module _ (slot_of member_in : List ℕ) (q : List Reached) (i t : ℕ) (ag : Agr
           let b : at 0 member_in' s ≡ at 0 member_in' (at 0 slot_of' (who q k)) = ap (at 0 member_in') (e ∙ sym (w.still k (omega arith))) in
           omega (arith, w.empty, sh.number k w.within)
 
-      pub walk_step : Walking slot_of member_in q i t slot-of'' member-in'' (via q k) (parent_of q k)
+      pub walk_step : Walking slot_of member_in q i t slot_of'' member_in'' (via q k) (parent_of q k)
       walk_step =
           let pk : parent_of q k < k = sh.earlier k k0 w.within in
           let ki : k ≤ i = w.within in
@@ -209,7 +209,7 @@ module _ (slot_of member_in : List ℕ) (q : List Reached) (i t : ℕ) (ag : Agr
             agrees = mv.agrees;
             within = omega arith;
             slot = (v_pos k k0 ki, v_in k k0 ki);
-            empty = ap (at 0 member-in'') (sym left_is) ∙ mv.left (omega (arith, left_is, v_pos k k0 ki));
+            empty = ap (at 0 member_in'') (sym left_is) ∙ mv.left (omega (arith, left_is, v_pos k k0 ki));
             was = λ n. omega (arith, sh.sits k k0 ki, sh.number k ki);
             still = λ j h. mv.others (who q j) (sh.apart j k (omega arith) ki) ∙ w.still j (omega arith);
             loses = lost;
@@ -222,7 +222,7 @@ module _ (slot_of member_in : List ℕ) (q : List Reached) (i t : ℕ) (ag : Agr
             rest = λ K z far. let r = w.rest K z far in (far k k0 ki, λ u h. mv.rest u (λ e. let a = ap K e in omega (arith, r.0)) (λ e. let a = ap K (e ∙ left_is) in omega (arith, far k k0 ki)) ∙ r.1 u h);
             slot_len = mv.slot_len ∙ w.slot_len;
             member_len = mv.member_len ∙ w.member_len;
-            moved = λ x. ap (λ (r : List (ℕ × ℕ)). given_slot r x (at 0 slot-of'' x)) (sym (back_is k k0 ki)) ∙ next_moved x;
+            moved = λ x. ap (λ (r : List (ℕ × ℕ)). given_slot r x (at 0 slot_of'' x)) (sym (back_is k k0 ki)) ∙ next_moved x;
             count =
                 let a = next_count not_here in
                 let b = one_of (at 0 slot_of (who q k)) (omega (arith, stands k k0 ki, v_pos k k0 ki)) in
@@ -238,24 +238,24 @@ module _ (slot_of member_in : List ℕ) (q : List Reached) (i t : ℕ) (ag : Agr
       root_is : who q k ≡ who q 0
       root_is = ap (who q) k0
 
-      last_kept : Kept slot_of member_in q i t slot-of'' member-in''
+      last_kept : Kept slot_of member_in q i t slot_of'' member_in''
       last_kept = record {
         agrees = mv.agrees;
-        root = let a : at 0 slot-of'' (who q 0) ≡ s = ap (at 0 slot-of'') (sym root_is) ∙ mv.placed in omega (arith, w.slot.0);
+        root = let a : at 0 slot_of'' (who q 0) ≡ s = ap (at 0 slot_of'') (sym root_is) ∙ mv.placed in omega (arith, w.slot.0);
         loses = lost;
         stays = keep;
         none = λ x n e. mv.others x (λ d. n (d ∙ root_is)) ∙ w.none x e;
         filled = λ u h. full u (λ e. let p = at_pos member_in u h in omega (arith, none_left)) h;
-        only = λ u n e. ⊎_elim (λ d. ap (at 0 member-in'') d) (λ d. bare u n (λ b. d (b ∙ none_left)) e) (cases_eq u 0);
+        only = λ u n e. ⊎_elim (λ d. ap (at 0 member_in'') d) (λ d. bare u n (λ b. d (b ∙ none_left)) e) (cases_eq u 0);
         end = t_full (λ e. omega (arith, none_left, sh.slot.0));
         lawful = law;
-        rest = λ K z far u h. let r = w.rest K z far in ⊎_elim (λ d. ap (at 0 member-in'') d ∙ sym (ap (at 0 member_in) d)) (λ d. mv.rest u (λ e. let a = ap K e in omega (arith, r.0)) (λ e. d (e ∙ none_left)) ∙ r.1 u h) (cases_eq u 0);
+        rest = λ K z far u h. let r = w.rest K z far in ⊎_elim (λ d. ap (at 0 member_in'') d ∙ sym (ap (at 0 member_in) d)) (λ d. mv.rest u (λ e. let a = ap K e in omega (arith, r.0)) (λ e. d (e ∙ none_left)) ∙ r.1 u h) (cases_eq u 0);
       }
 
-      pub last_step : Applied slot_of member_in q i t slot-of'' member-in''
+      pub last_step : Applied slot_of member_in q i t slot_of'' member_in''
       last_step = record {
         kept = last_kept;
-        flip = λ x. ap (λ (r : List (ℕ × ℕ)). given_slot r x (at 0 slot-of'' x)) (sym (ap (λ j. back j q j) k0)) ∙ next_moved x;
+        flip = λ x. ap (λ (r : List (ℕ × ℕ)). given_slot r x (at 0 slot_of'' x)) (sym (ap (λ j. back j q j) k0)) ∙ next_moved x;
         number =
             let z : at 0 slot_of (who q k) ≡ 0 = ap (at 0 slot_of) root_is ∙ sh.unplaced in
             let a = next_count (λ e. omega (arith, w.slot.0)) in

@@ -21,18 +21,18 @@ entries_in slot_of member_in ag t = ⊎_elim
 pub path_shape : (S : Scene) (slot_of : List ℕ) (q : List Reached) (i t : ℕ) → S.root ≤ length slot_of → at 0 slot_of S.root ≡ 0
     → 0 < t → t ≤ length S.member_in → Path S q i t → Shape slot_of S.member_in q i t
 path_shape S slot_of q i t rl r0 t0 tl p = record {
-  within = omega (arith, p.chain.fits);
+  within = p.within;
   slot = (t0, tl);
   root = omega (arith, p.chain.first);
   unplaced = ap (at 0 slot_of) p.chain.first ∙ r0;
-  number = λ k h. p.chain.number k (omega arith);
-  earlier = λ k k0 h. p.chain.earlier k k0 (omega arith);
-  sits = λ k k0 h. p.chain.sits k k0 (omega arith);
-  apart = λ j k jk h. p.chain.apart j k jk (omega arith);
+  number = λ k h. p.chain.number k (omega (arith, p.within));
+  earlier = λ k k0 h. p.chain.earlier k k0 (omega (arith, p.within));
+  sits = λ k k0 h. p.chain.sits k k0 (omega (arith, p.within));
+  apart = λ j k jk h. p.chain.apart j k jk (omega (arith, p.within));
   loser = λ k h e.
-      let n = p.chain.number k (omega arith) in
+      let n = p.chain.number k (omega (arith, p.within)) in
       both_ways (S.reaches (at 0 S.member_in t) S.root) (p.exit.lower (omega arith))
-      (ap (λ z. S.reaches z S.root) (sym e) ∙ p.chain.high k (omega arith));
+      (ap (λ z. S.reaches z S.root) (sym e) ∙ p.chain.high k (omega (arith, p.within)));
 }
 
 pub fit_parts : {P : Type 0} (pairs : Pairs) (ranking : List P) (plan : Held) → side_fits pairs ranking plan ≡ true → (pairs.programmes ≡ length ranking) × (length plan.slot_of ≡ length ranking) × (pairs.slots ≡ length plan.programme_in)

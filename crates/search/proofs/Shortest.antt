@@ -5,16 +5,17 @@ use Rattle.search.specs.declared.queue.Reached.{Reached}
 use Rattle.refusal.specs.Tables.{at}
 use Rattle.search.specs.Scene.{Scene, usable, holder}
 use Rattle.search.specs.Search.{who, parent_of, depth_of, Chain, Listed, Path}
+use Rattle.search.proofs.Counting.{one_of, one_none}
 use Rattle.search.specs.Paths.{apart, leads, ends, improving, one, pairs, Shortest, NoPath, Safe, back, trail}
 
 -- every place above the depth L was looked from: each of its slots leads to one in the queue no more than one deeper, or to one with a name
-pub record Explored (S : Scene) (q : List Reached) (n L : ℕ) : Type 0 where
+pub record Explored (S : Scene) (q : List Reached) (L : ℕ) : Type 0 where
   pub first : who q 0 ≡ S.root
-  pub some : 0 < n
+  pub some : 0 < length q
   pub top : depth_of q 0 ≡ 0
-  pub high : (k : ℕ) → k < n → S.reaches (who q k) S.root ≡ true
-  pub near : (k : ℕ) → k < n → depth_of q k < L → (t : ℕ) → usable S (who q k) t ≡ true
-      → (0 < holder S t) × (Listed q n (depth_of q k + 1) (holder S t) ⊎ (0 < at 0 S.names (holder S t)))
+  pub high : (k : ℕ) → k < length q → S.reaches (who q k) S.root ≡ true
+  pub near : (k : ℕ) → k < length q → depth_of q k < L → (t : ℕ) → usable S (who q k) t ≡ true
+      → (0 < holder S t) × (Listed q (depth_of q k + 1) (holder S t) ⊎ (0 < at 0 S.names (holder S t)))
 
 -- the parts of `leads` and `improving`
 record Step (S : Scene) (e : ℕ × ℕ) (p : List (ℕ × ℕ)) (x : ℕ) : Type 0 where
@@ -47,17 +48,17 @@ whole S e p h =
           (or_cases (eqb y 0) (not (S.reaches y S.root) && apart y (e ∷ p)) b.0);
     }
 
-module _ (S : Scene) (q : List Reached) (n L : ℕ) (ex : Explored S q n L) (safe : Safe S) where
+module _ (S : Scene) (q : List Reached) (L : ℕ) (ex : Explored S q L) (safe : Safe S) where
   -- from where a path may go on, its slots lead to where it may go on
-  onward : (d x s : ℕ) → d < L → Listed q n d x ⊎ (0 < at 0 S.names x) → usable S x s ≡ true
-      → (0 < holder S s) × (Listed q n (d + 1) (holder S s) ⊎ (0 < at 0 S.names (holder S s)))
+  onward : (d x s : ℕ) → d < L → Listed q d x ⊎ (0 < at 0 S.names x) → usable S x s ≡ true
+      → (0 < holder S s) × (Listed q (d + 1) (holder S s) ⊎ (0 < at 0 S.names (holder S s)))
   onward d x s h (inl w) u =
       let r = ex.near w.place w.within (omega (arith, w.depth)) s (ap (λ z. usable S z s) w.is ∙ u) in
       (r.0, ⊎_elim (λ v. inl (record { place = v.place; within = v.within; is = v.is; depth = omega (arith, v.depth, w.depth) })) (λ v. inr v) r.1)
   onward d x s h (inr w) u = let r = safe.kept x s w u in (r.0, inr r.1)
 
   -- the members that pairs lead to, as many as L, are in the queue, or have a name
-  pub reached : (p : List (ℕ × ℕ)) (x : ℕ) → length p ≤ L → leads S p x ≡ true → Listed q n (length p) x ⊎ (0 < at 0 S.names x)
+  pub reached : (p : List (ℕ × ℕ)) (x : ℕ) → length p ≤ L → leads S p x ≡ true → Listed q (length p) x ⊎ (0 < at 0 S.names x)
   reached [] x h e = inl (record { place = 0; within = ex.some; is = ex.first ∙ sym (eqb-true x S.root e); depth = omega (arith, ex.top) })
   reached (e ∷ p) x h l =
       let a = step S e p x l in
@@ -68,7 +69,7 @@ module _ (S : Scene) (q : List Reached) (n L : ℕ) (ex : Explored S q n L) (saf
       (λ v. inr (let f = ap (at 0 S.names) y in omega arith))
       r.1
 
-  high_of : (d y : ℕ) → Listed q n d y ⊎ (0 < at 0 S.names y) → S.reaches y S.root ≡ true
+  high_of : (d y : ℕ) → Listed q d y ⊎ (0 < at 0 S.names y) → S.reaches y S.root ≡ true
   high_of d y (inl w) = ap (λ z. S.reaches z S.root) (sym w.is) ∙ ex.high w.place w.within
   high_of d y (inr w) = safe.high y w
 
@@ -86,27 +87,19 @@ module _ (S : Scene) (q : List Reached) (n L : ℕ) (ex : Explored S q n L) (saf
       (λ ge. omega arith)
       (cases_lt (length p) L)
 
-pub one_full : (y : ℕ) → 0 < y → one y ≡ 1
-one_full zero h = absurd (let z : ⊥ = omega arith in z)
-one_full (suc y) h = refl
-
-pub one_empty : (y : ℕ) → y ≡ 0 → one y ≡ 0
-one_empty zero h = refl
-one_empty (suc y) h = absurd (let z : ⊥ = omega arith in z)
-
 -- what leads to a member has a pair of the plan for each new one
 pub pairs_of : (S : Scene) (p : List (ℕ × ℕ)) (x : ℕ) → leads S p x ≡ true → pairs S.member_in p ≡ length p + length p
 pairs_of S [] x h = refl
 pairs_of S (e ∷ p) x h =
     let a = step S e p x h in
-    omega (arith, one_full (holder S e.1) (omega (arith, a.sits, a.number)), pairs_of S p e.0 a.before)
+    omega (arith, one_of (holder S e.1) (omega (arith, a.sits, a.number)), pairs_of S p e.0 a.before)
 
 -- the place k of the queue and the members above it on its way
-module _ (S : Scene) (q : List Reached) (n : ℕ) (c : Chain S q n) where
+module _ (S : Scene) (q : List Reached) (c : Chain S q) where
   not_same : (a b : ℕ) → (a ≡ b → ⊥) → not (eqb a b) ≡ true
   not_same a b h = not_from_false (eqb a b) (ne_eqb a b h)
 
-  pub apart_back : (f k y : ℕ) → k < n → k ≤ f → ((j : ℕ) → j < k → who q j ≡ y → ⊥) → apart y (back f q k) ≡ true
+  pub apart_back : (f k y : ℕ) → k < length q → k ≤ f → ((j : ℕ) → j < k → who q j ≡ y → ⊥) → apart y (back f q k) ≡ true
   apart_back zero k y h l a = refl
   apart_back (suc f) zero y h l a = refl
   apart_back (suc f) (suc k) y h l a =
@@ -114,7 +107,7 @@ module _ (S : Scene) (q : List Reached) (n : ℕ) (c : Chain S q n) where
       and_from _ _ (not_same (who q (parent_of q (suc k))) y (a (parent_of q (suc k)) e))
       (apart_back f (parent_of q (suc k)) y (omega arith) (omega arith) (λ j g. a j (omega arith)))
 
-  pub leads_back : (f k : ℕ) → k < n → k ≤ f → leads S (back f q k) (who q k) ≡ true
+  pub leads_back : (f k : ℕ) → k < length q → k ≤ f → leads S (back f q k) (who q k) ≡ true
   leads_back zero zero h l = eq-eqb _ _ c.first
   leads_back zero (suc k) h l = absurd (let z : ⊥ = omega arith in z)
   leads_back (suc f) zero h l = eq-eqb _ _ c.first
@@ -127,7 +120,7 @@ module _ (S : Scene) (q : List Reached) (n : ℕ) (c : Chain S q n) where
       (and_from _ _ (apart_back (suc f) (suc k) (who q (suc k)) h l (λ i g. c.apart i (suc k) g h))
       (leads_back f (parent_of q (suc k)) (omega arith) (omega arith)))))
 
-  pub length_back : (f k : ℕ) → k < n → k ≤ f → length (back f q k) ≡ depth_of q k
+  pub length_back : (f k : ℕ) → k < length q → k ≤ f → length (back f q k) ≡ depth_of q k
   length_back zero zero h l = sym c.top
   length_back zero (suc k) h l = absurd (let z : ⊥ = omega arith in z)
   length_back (suc f) zero h l = sym c.top
@@ -137,40 +130,40 @@ module _ (S : Scene) (q : List Reached) (n : ℕ) (c : Chain S q n) where
 
 module _ (S : Scene) (q : List Reached) (i t : ℕ) (p : Path S q i t) where
   pub trail_leads : leads S (back i q i) (who q i) ≡ true
-  trail_leads = leads_back S q (i + 1) p.chain i i (omega arith) (omega arith)
+  trail_leads = leads_back S q p.chain i i p.within (omega arith)
 
   pub trail_improves : improving S (trail q i t) ≡ true
   trail_improves = and_from _ _ (and_from _ _ p.last p.exit.present)
       (and_from _ _
       (⊎_elim
       (λ h. or_right _ _ (and_from _ _ (not_from_false _ (p.exit.lower h))
-      (and_from _ _ (not_same S q (i + 1) p.chain (who q i) (holder S t) (clash i (omega arith) h))
-      (apart_back S q (i + 1) p.chain i i (holder S t) (omega arith) (omega arith) (λ j g. clash j (omega arith) h)))))
+      (and_from _ _ (not_same S q p.chain (who q i) (holder S t) (clash i p.within h))
+      (apart_back S q p.chain i i (holder S t) p.within (omega arith) (λ j g. clash j (omega (arith, p.within)) h)))))
       (λ h. or_left _ _ (eq-eqb _ _ (let z : holder S t ≡ 0 = omega arith in z)))
       (cases_lt 0 (holder S t)))
       trail_leads)
     where
-      clash : (j : ℕ) → j < i + 1 → 0 < holder S t → who q j ≡ holder S t → ⊥
+      clash : (j : ℕ) → j < length q → 0 < holder S t → who q j ≡ holder S t → ⊥
       clash j g h e = both_ways (S.reaches (holder S t) S.root) (p.exit.lower h) (ap (λ z. S.reaches z S.root) (sym e) ∙ p.chain.high j g)
 
   pub trail_pairs : pairs S.member_in (trail q i t) ≡ 1 + one (holder S t) + (depth_of q i + depth_of q i)
-  trail_pairs = omega (arith, pairs_of S (back i q i) (who q i) trail_leads, length_back S q (i + 1) p.chain i i (omega arith) (omega arith))
+  trail_pairs = omega (arith, pairs_of S (back i q i) (who q i) trail_leads, length_back S q p.chain i i p.within (omega arith))
 
   -- at an unfilled slot
-  pub shortest_empty : (q₀ : List Reached) (n₀ : ℕ) → Explored S q₀ n₀ (depth_of q i) → Safe S → holder S t ≡ 0 → Shortest S (trail q i t)
-  shortest_empty q₀ n₀ ex safe z = record { path = trail_improves; least = λ o h. least o h }
+  pub shortest_empty : (q₀ : List Reached) → Explored S q₀ (depth_of q i) → Safe S → holder S t ≡ 0 → Shortest S (trail q i t)
+  shortest_empty q₀ ex safe z = record { path = trail_improves; least = λ o h. least o h }
     where
       least : (o : List (ℕ × ℕ)) → improving S o ≡ true → pairs S.member_in (trail q i t) ≤ pairs S.member_in o
       least [] h = absurd (both_ways false refl h)
       least (e ∷ o) h =
-          let l = longer S q₀ n₀ (depth_of q i) ex safe (e ∷ o) h in
-          omega (arith, trail_pairs, one_empty (holder S t) z, pairs_of S o e.0 (whole S e o h).before)
+          let l = longer S q₀ (depth_of q i) ex safe (e ∷ o) h in
+          omega (arith, trail_pairs, one_none (holder S t) z, pairs_of S o e.0 (whole S e o h).before)
 
   -- at a lower member, where every slot seen down to that depth is filled
-  pub shortest_lower : (q₀ : List Reached) (n₀ : ℕ) → Explored S q₀ n₀ (depth_of q i) → Safe S
-      → ((k : ℕ) → k < n₀ → depth_of q₀ k ≤ depth_of q i → (s : ℕ) → usable S (who q₀ k) s ≡ true → 0 < holder S s)
+  pub shortest_lower : (q₀ : List Reached) → Explored S q₀ (depth_of q i) → Safe S
+      → ((k : ℕ) → k < length q₀ → depth_of q₀ k ≤ depth_of q i → (s : ℕ) → usable S (who q₀ k) s ≡ true → 0 < holder S s)
       → 0 < holder S t → Shortest S (trail q i t)
-  shortest_lower q₀ n₀ ex safe full z = record { path = trail_improves; least = λ o h. least o h }
+  shortest_lower q₀ ex safe full z = record { path = trail_improves; least = λ o h. least o h }
     where
       filled : (e : ℕ × ℕ) (o : List (ℕ × ℕ)) → improving S (e ∷ o) ≡ true → length o ≤ depth_of q i → 0 < holder S e.1
       filled e o h l =
@@ -178,20 +171,20 @@ module _ (S : Scene) (q : List Reached) (i t : ℕ) (p : Path S q i t) where
           ⊎_elim
           (λ w. full w.place w.within (omega (arith, w.depth)) e.1 (ap (λ x. usable S x e.1) w.is ∙ a.fair))
           (λ w. (safe.kept e.0 e.1 w a.fair).0)
-          (reached S q₀ n₀ (depth_of q i) ex safe o e.0 l a.before)
+          (reached S q₀ (depth_of q i) ex safe o e.0 l a.before)
 
       least : (o : List (ℕ × ℕ)) → improving S o ≡ true → pairs S.member_in (trail q i t) ≤ pairs S.member_in o
       least [] h = absurd (both_ways false refl h)
       least (e ∷ o) h =
-          let l = longer S q₀ n₀ (depth_of q i) ex safe (e ∷ o) h in
-          let e1 = one_full (holder S t) z in
+          let l = longer S q₀ (depth_of q i) ex safe (e ∷ o) h in
+          let e1 = one_of (holder S t) z in
           let m = pairs_of S o e.0 (whole S e o h).before in
           ⊎_elim
-          (λ g. let f = one_full (holder S e.1) (filled e o h g) in omega (arith, trail_pairs))
+          (λ g. let f = one_of (holder S e.1) (filled e o h g) in omega (arith, trail_pairs))
           (λ g. omega (arith, trail_pairs))
           (⊎_elim (λ g. inr g) (λ g. inl g) (cases_lt (depth_of q i) (length o)))
 
-pub no_path : (S : Scene) (q : List Reached) (n : ℕ) → ((L : ℕ) → Explored S q n L) → Safe S → NoPath S
-no_path S q n ex safe o = ⊎_elim
-    (λ h. absurd (let l = longer S q n (length o) (ex (length o)) safe o h in let z : ⊥ = omega arith in z))
+pub no_path : (S : Scene) (q : List Reached) → ((L : ℕ) → Explored S q L) → Safe S → NoPath S
+no_path S q ex safe o = ⊎_elim
+    (λ h. absurd (let l = longer S q (length o) (ex (length o)) safe o h in let z : ⊥ = omega arith in z))
     (λ h. h) (cases_Bool (improving S o))

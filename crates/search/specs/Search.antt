@@ -2,8 +2,8 @@
 -- In the words of the code; what they come to is said in `Paths` and `Outcomes`.
 use Rattle.std.specs.Prelude.{◌≡◌, ℕ, suc, ◌+◌, ◌<◌, ◌≤◌, Bool, true, false, ◌⊎◌, List, [], ◌∷◌, length, Some, None, Option, ◌≢◌, nat_lt, slice_index_or}
 use Rattle.search.specs.declared.queue.Reached.{Reached}
-use Rattle.search.specs.declared.find.Verdict.{Verdict}
-use Rattle.search.specs.declared.find.Verdict.TheVariants.{Pass, Empty, Lower, Add}
+use Rattle.search.specs.declared.view.Verdict.{Verdict}
+use Rattle.search.specs.declared.view.Verdict.TheVariants.{Pass, Empty, Lower, Add}
 use Rattle.search.specs.declared.find.Looked.{Looked}
 use Rattle.search.specs.declared.find.Looked.TheVariants.{Stopped, Went}
 use Rattle.search.specs.declared.queue.End.{End}
@@ -32,26 +32,25 @@ pub record Usable (S : Scene) (x t : ℕ) : Type 0 where
   pub allowed : S.allowed x t ≡ true
   pub present : at false S.slots t ≡ true
 
--- The first n places of the queue are a tree of steps from the root.
-pub record Chain (S : Scene) (q : List Reached) (n : ℕ) : Type 0 where
-  pub some : 0 < n
-  pub fits : n ≤ length q
+-- The queue is a tree of steps from the root.
+pub record Chain (S : Scene) (q : List Reached) : Type 0 where
+  pub some : 0 < length q
   pub first : who q 0 ≡ S.root
-  pub number : (k : ℕ) → k < n → 0 < who q k
-  pub high : (k : ℕ) → k < n → S.reaches (who q k) S.root ≡ true
-  pub unnamed : (k : ℕ) → k < n → at 0 S.names (who q k) ≡ 0
-  pub earlier : (k : ℕ) → 0 < k → k < n → parent_of q k < k
-  pub joined : (k : ℕ) → 0 < k → k < n → Usable S (who q (parent_of q k)) (via q k)
-  pub sits : (k : ℕ) → 0 < k → k < n → at 0 S.member_in (via q k) ≡ who q k
-  pub apart : (j k : ℕ) → j < k → k < n → who q j ≢ who q k
+  pub number : (k : ℕ) → k < length q → 0 < who q k
+  pub high : (k : ℕ) → k < length q → S.reaches (who q k) S.root ≡ true
+  pub unnamed : (k : ℕ) → k < length q → at 0 S.names (who q k) ≡ 0
+  pub earlier : (k : ℕ) → 0 < k → k < length q → parent_of q k < k
+  pub joined : (k : ℕ) → 0 < k → k < length q → Usable S (who q (parent_of q k)) (via q k)
+  pub sits : (k : ℕ) → 0 < k → k < length q → at 0 S.member_in (via q k) ≡ who q k
+  pub apart : (j k : ℕ) → j < k → k < length q → who q j ≢ who q k
   pub top : depth_of q 0 ≡ 0
-  pub deeper : (k : ℕ) → 0 < k → k < n → depth_of q k ≡ depth_of q (parent_of q k) + 1
-  pub shallow : (k : ℕ) → k < n → depth_of q k ≤ k
+  pub deeper : (k : ℕ) → 0 < k → k < length q → depth_of q k ≡ depth_of q (parent_of q k) + 1
+  pub shallow : (k : ℕ) → k < length q → depth_of q k ≤ k
 
 -- The queue is in the order of depth, and no place is more than one deeper than the place i.
-pub record Levels (q : List Reached) (n i : ℕ) : Type 0 where
-  pub order : (j k : ℕ) → j ≤ k → k < n → depth_of q j ≤ depth_of q k
-  pub near : (k : ℕ) → k < n → depth_of q k ≤ depth_of q i + 1
+pub record Levels (q : List Reached) (i : ℕ) : Type 0 where
+  pub order : (j k : ℕ) → j ≤ k → k < length q → depth_of q j ≤ depth_of q k
+  pub near : (k : ℕ) → k < length q → depth_of q k ≤ depth_of q i + 1
 
 -- How many are not marked.
 abbrev pub unmarked : List Bool → ℕ
@@ -60,16 +59,16 @@ unmarked (true ∷ xs) = unmarked xs
 unmarked (false ∷ xs) = suc (unmarked xs)
 
 -- The marks are those of the members in the queue.
-pub record Marks (q : List Reached) (n : ℕ) (m : List Bool) : Type 0 where
-  pub member : (k : ℕ) → k < n → at false m (who q k) ≡ true
-  pub listed : (y : ℕ) → at false m y ≡ true → (k : ℕ) × (k < n) × (who q k ≡ y)
-  pub count : n + unmarked m ≡ length m
+pub record Marks (q : List Reached) (m : List Bool) : Type 0 where
+  pub member : (k : ℕ) → k < length q → at false m (who q k) ≡ true
+  pub listed : (y : ℕ) → at false m y ≡ true → (k : ℕ) × (k < length q) × (who q k ≡ y)
+  pub count : length q + unmarked m ≡ length m
 
 -- The queue and the marks only grew.
-pub record Grown (q : List Reached) (n : ℕ) (m : List Bool) (q' : List Reached) (n' : ℕ) (m' : List Bool) : Type 0 where
-  pub more : n ≤ n'
-  pub same : (k : ℕ) → k < n → who q' k ≡ who q k
-  pub level : (k : ℕ) → k < n → depth_of q' k ≡ depth_of q k
+pub record Grown (q : List Reached) (m : List Bool) (q' : List Reached) (m' : List Bool) : Type 0 where
+  pub more : length q ≤ length q'
+  pub same : (k : ℕ) → k < length q → who q' k ≡ who q k
+  pub level : (k : ℕ) → k < length q → depth_of q' k ≡ depth_of q k
   pub kept : (y : ℕ) → at false m y ≡ true → at false m' y ≡ true
 
 -- The slot t is no way out of what is marked: if it may be used, its holder is marked or has a name.
@@ -77,22 +76,22 @@ abbrev pub Shut : Scene → List Bool → ℕ → Type 0
 Shut S m t = at false S.slots t ≡ true → (0 < at 0 S.member_in t) × ((at false m (at 0 S.member_in t) ≡ true) ⊎ (0 < at 0 S.names (at 0 S.member_in t)))
 
 -- The member y is in the queue, at the depth d or above.
-pub record Listed (q : List Reached) (n d y : ℕ) : Type 0 where
+pub record Listed (q : List Reached) (d y : ℕ) : Type 0 where
   pub place : ℕ
-  pub within : place < n
+  pub within : place < length q
   pub is : who q place ≡ y
   pub depth : depth_of q place ≤ d
 
 -- The slot t, seen from the depth d, is filled: by one in the queue no deeper than d + 1, or by one with a name, or else B.
-abbrev pub Led : Scene → List Reached → ℕ → ℕ → Type 0 → ℕ → Type 0
-Led S q n d B t = at false S.slots t ≡ true → (0 < at 0 S.member_in t) × (Listed q n (d + 1) (at 0 S.member_in t) ⊎ ((0 < at 0 S.names (at 0 S.member_in t)) ⊎ B))
+abbrev pub Led : Scene → List Reached → ℕ → Type 0 → ℕ → Type 0
+Led S q d B t = at false S.slots t ≡ true → (0 < at 0 S.member_in t) × (Listed q (d + 1) (at 0 S.member_in t) ⊎ ((0 < at 0 S.names (at 0 S.member_in t)) ⊎ B))
 
 -- So are the slots of member x below `upto`, or all of them.
-abbrev pub LedBelow : Scene → List Reached → ℕ → ℕ → Type 0 → ℕ → ℕ → Type 0
-LedBelow S q n d B x upto = (t : ℕ) → t < upto → S.allowed x t ≡ true → Led S q n d B t
+abbrev pub LedBelow : Scene → List Reached → ℕ → Type 0 → ℕ → ℕ → Type 0
+LedBelow S q d B x upto = (t : ℕ) → t < upto → S.allowed x t ≡ true → Led S q d B t
 
-abbrev pub AllLed : Scene → List Reached → ℕ → ℕ → Type 0 → ℕ → Type 0
-AllLed S q n d B x = (t : ℕ) → S.allowed x t ≡ true → Led S q n d B t
+abbrev pub AllLed : Scene → List Reached → ℕ → Type 0 → ℕ → Type 0
+AllLed S q d B x = (t : ℕ) → S.allowed x t ≡ true → Led S q d B t
 
 -- No slot of member x is a way out of what is marked.
 abbrev pub Closed : Scene → List Bool → ℕ → Type 0
@@ -122,7 +121,8 @@ Judged S m t (Add y) = Fresh S m t y
 
 -- A path: over the places of the queue from the root to the place i, and from there to the slot t.
 pub record Path (S : Scene) (q : List Reached) (i t : ℕ) : Type 0 where
-  pub chain : Chain S q (i + 1)
+  pub within : i < length q
+  pub chain : Chain S q
   pub last : S.allowed (who q i) t ≡ true
   pub exit : Exit S t
 
@@ -142,13 +142,13 @@ abbrev pub Unders : Scene → ℕ → Option ℕ → Type 0
 Unders S x None = Unit {0}
 Unders S x (Some t) = Under S x t
 
--- All slots of the member at the place i were walked: to n' places, and to the slot of a lower one, if one is given.
-pub record Goes (S : Scene) (q : List Reached) (n : ℕ) (m : List Bool) (i : ℕ) (q' : List Reached) (n' : ℕ) (m' : List Bool) (lower : Option ℕ) : Type 0 where
-  pub chain : Chain S q' n'
-  pub marks : Marks q' n' m'
-  pub grown : Grown q n m q' n' m'
-  pub levels : Levels q' n' i
-  pub led : AllLed S q' n' (depth_of q i) (SomeSlot lower) (who q i)
+-- All slots of the member at the place i were walked: to a longer queue, and to the slot of a lower one, if one is given.
+pub record Goes (S : Scene) (q : List Reached) (m : List Bool) (i : ℕ) (q' : List Reached) (m' : List Bool) (lower : Option ℕ) : Type 0 where
+  pub chain : Chain S q'
+  pub marks : Marks q' m'
+  pub grown : Grown q m q' m'
+  pub levels : Levels q' i
+  pub led : AllLed S q' (depth_of q i) (SomeSlot lower) (who q i)
   pub under : Unders S (who q i) lower
 
 -- The walk came to the unfilled slot t.
@@ -158,9 +158,9 @@ pub record Stops (S : Scene) (q : List Reached) (i t : ℕ) (q' : List Reached) 
   pub empty : at 0 S.member_in t ≡ 0
 
 -- What each answer of the walk says.
-abbrev pub Looks : Scene → List Reached → ℕ → List Bool → ℕ → Looked → List Reached → List Bool → Type 0
-Looks S q n m i (Stopped t) q' m' = Stops S q i t q'
-Looks S q n m i (Went n' lower) q' m' = Goes S q n m i q' n' m' lower
+abbrev pub Looks : Scene → List Reached → List Bool → ℕ → Looked → List Reached → List Bool → Type 0
+Looks S q m i (Stopped t) q' m' = Stops S q i t q'
+Looks S q m i (Went lower) q' m' = Goes S q m i q' m' lower
 
 -- The lower end that was met, if one was, leads from before the place `next`.
 abbrev pub Before : Option End → ℕ → Type 0

@@ -1,22 +1,18 @@
 //! One step of planning: a search from a root, and the flip of the path that it finds.
-ghost use Rattle.std.specs.Prelude.{◌≡◌, ◌<◌, ◌≤◌, true, length, IfOk, OnErr};
-ghost use Rattle.refusal.specs.Limits.{side};
+ghost use Rattle.std.specs.Prelude.{◌≡◌, length, IfOk, OnErr};
 ghost use Rattle.refusal.specs.Counting.{within};
-ghost use Rattle.refusal.specs.Tables.{at};
 ghost use Rattle.refusal.specs.Refusals.{refusal_of, first_refusal};
 ghost use Rattle.plan.specs.Held.{held};
-ghost use Rattle.search.specs.Paths.{Ended};
 ghost use Rattle.search.specs.Outcomes.{side_fits, improve_refusals, scene_of, Told};
 
 use crate::find::find;
 use crate::flip::flip;
-use crate::queue::{End, Reached};
 use crate::space::Space;
 use crate::view::View;
 use plan::Plan;
 use priority::Priority;
 use refusal::Refusal;
-use refusal::limits::Num;
+use refusal::limits::{Num, is_within};
 use refusal::tables::entry;
 use source::PairSource;
 
@@ -40,64 +36,6 @@ fn fits<S: PairSource, P>(source: &S, ranking: &[P], plan: &Plan) -> bool
         && source.slots() as usize == plan.slots()
 }
 
-/// Searches the plan from the root.
-fn search_plan<'a, S: PairSource, P: Priority>(
-    source: &'a S,
-    ranking: &'a [P],
-    plan: &'a Plan,
-    names: &'a [Num],
-    root: Num,
-    queue: &mut [Reached],
-    marks: &mut [bool],
-) -> Option<End>
-    requires known { (0 < root) × (root ≤ length ranking.now) }
-    requires unnamed { at 0 names.now root ≡ 0 }
-    requires lens { (length ranking.now ≤ side) × (length marks.old ≡ side) × (length queue.old ≡ side) }
-    ensures { Ended (scene_of P.Priority.reaches (S.PairSource.pairs source.now) ranking.now (held plan.now) names.now root) queue.new marks.new result }
-{
-    let view = View {
-        source,
-        ranking,
-        slots: plan.slots_present(),
-        member_in: plan.programme_in_table(),
-        names,
-        root,
-    };
-    find(&view, queue, marks)
-}
-
-/// Searches from a root that has neither slot nor name, and flips the path that it finds.
-fn attempt<S: PairSource, P: Priority>(
-    source: &S,
-    ranking: &[P],
-    plan: &mut Plan,
-    names: &[Num],
-    space: &mut Space,
-    root: Num,
-) -> Outcome
-    requires fit { side_fits (S.PairSource.pairs source.now) ranking.now (held plan.old) ≡ true }
-    requires known { (0 < root) × (root ≤ length ranking.now) }
-    requires waits { (at 0 (held plan.old).slot_of root ≡ 0) × (at 0 names.now root ≡ 0) }
-    ensures told { Told (scene_of P.Priority.reaches (S.PairSource.pairs source.now) ranking.now (held plan.old) names.now root) (held plan.old) names.now (held plan.new) space.new.marks.items result }
-    ensures attendance { (held plan.new).attendance ≡ (held plan.old).attendance }
-{
-    match search_plan(
-        source,
-        ranking,
-        plan,
-        names,
-        root,
-        &mut space.queue,
-        &mut space.marks,
-    ) {
-        None => Outcome::Stuck,
-        Some(end) => {
-            flip(plan, &space.queue, end);
-            Outcome::Placed(end.pairs)
-        }
-    }
-}
-
 /// Searches from the root, breadth first, and flips the path that it finds, a shortest one. Who has a
 /// name is passed over. Refuses 12 when the parts do not fit together, then 10 when there is no such root.
 pub fn improve<S: PairSource, P: Priority>(
@@ -116,11 +54,23 @@ pub fn improve<S: PairSource, P: Priority>(
     if !fits(source, ranking, plan) {
         return Err(Refusal::Mismatch);
     }
-    if root == 0 || root as usize > ranking.len() {
+    if !is_within(ranking.len(), root as usize) {
         return Err(Refusal::UnknownNumber);
     }
     if entry(0, plan.slot_of_table(), root as usize) != 0 || entry(0, names, root as usize) != 0 {
         return Ok(Outcome::Idle);
     }
-    Ok(attempt(source, ranking, plan, names, space, root))
+    let view = View {
+        source,
+        ranking,
+        slots: plan.slots_present(),
+        member_in: plan.programme_in_table(),
+        names,
+        root,
+    };
+    let Some(end) = find(&view, &mut space.queue, &mut space.marks) else {
+        return Ok(Outcome::Stuck);
+    };
+    flip(plan, &space.queue, end);
+    Ok(Outcome::Placed(end.pairs))
 }

@@ -1,17 +1,18 @@
 //! The room that a search takes, made once for all searches.
-ghost use Rattle.std.specs.Prelude.{◌≡◌, false, replicate, IfOk, vec_len};
+ghost use Rattle.std.specs.Prelude.{◌≡◌, ◌≤◌, false, replicate, IfOk, vec_len, vec_capacity};
 ghost use Rattle.refusal.specs.Limits.{side};
 
 use crate::queue::Reached;
 use refusal::limits::SIDE;
 use std::alloc::{AllocError, Global};
 
-/// A queue and marks for `SIDE` members.
+/// A queue with room for `SIDE` members, and marks for as many.
 #[derive(Drop)]
 pub struct Space {
     pub(crate) queue: Vec<Reached>,
     pub(crate) marks: Vec<bool>,
-    ghost lens: { (vec_len queue ≡ side) × (vec_len marks ≡ side) },
+    ghost room: { side ≤ vec_capacity queue },
+    ghost len: { vec_len marks ≡ side },
 }
 
 impl Space {
@@ -19,12 +20,7 @@ impl Space {
     pub fn new(heap: Global) -> Result<Space, AllocError>
         ensures after { IfOk result (λ space. space.marks.items ≡ replicate side false) }
     {
-        let queue = vec![in heap; Reached {
-            member: 0,
-            slot: 0,
-            parent: 0,
-            depth: 0
-        }; SIDE]?;
+        let queue = Vec::with_capacity(heap, SIDE)?;
         let marks = vec![in heap; false; SIDE]?;
         Ok(Space { queue, marks })
     }

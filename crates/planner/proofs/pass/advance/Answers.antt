@@ -32,7 +32,7 @@ name_reached-requires g c =
     let told : Dry (scene_of g.P.Priority.reaches pairs c.args.ranking.now (held plan) c.args.names.now c.args.root) space.marks.items = c.in-Stuck.ensures.told.0 in
     let len = ap length c.marks.ensures in
     record {
-      lens = omega (arith, (plan_lengths plan).few, fit.1, space.lens.1, space.marks.ok.0);
+      lens = omega (arith, (plan_lengths plan).few, fit.1, space.len, space.marks.ok.0);
       few = λ k h. omega (
         arith,
         reached_few laws pairs c.args.ranking.now plan c.args.names.now c.args.done.now c.args.root c.requires.fit (omega arith) c.requires.clear c.requires.state c.requires.chosen c.marks.result.now
