@@ -21,7 +21,7 @@ impl Programme {
         ensures answer { refusal_of result ≡ first_refusal (programme_refusals length late_mark) }
         ensures told { IfOk result (λ programme. (programme.length ≡ length) × (programme.late ≡ nat_eq late_mark 1)) }
     {
-        if length < 1 || length > DAY || late_mark > 1 {
+        if !(1..=DAY).contains(&length) || late_mark > 1 {
             return Err(Refusal::ValueRange);
         }
         Ok(Programme {

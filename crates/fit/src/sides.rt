@@ -3,17 +3,17 @@ ghost use Rattle.std.specs.Prelude.{◌≡◌, IfOk, vec_len};
 ghost use Rattle.refusal.specs.Refusals.{refusal_of, first_refusal};
 ghost use Rattle.source.specs.Pairs.{holds};
 ghost use Rattle.source.specs.Makes.{count_refusals};
-ghost use Rattle.fit.specs.Fitting.{fits as fit-test, fitting, fit_pairs};
+ghost use Rattle.fit.specs.Fitting.{fits as fit_test, fitting, fit_pairs};
 
 use crate::times::is_late_start;
 use crate::{Fit, Programme, Slot};
 use refusal::Refusal;
-use refusal::limits::{Num, SIDE};
+use refusal::limits::{Num, SIDE, is_within};
 use source::PairSource;
 
 /// Whether the programme may run in the slot.
 pub fn fits(programme: &Programme, slot: &Slot) -> bool
-    ensures { result ≡ fit-test programme.now slot.now }
+    ensures { result ≡ fit_test programme.now slot.now }
 {
     programme.length() <= slot.length() && (!programme.is_late() || is_late_start(slot.start()))
 }
@@ -34,13 +34,9 @@ impl Fit {
     pub fn is_allowed(&self, programme: usize, slot: usize) -> bool
         ensures { result ≡ holds (fit_pairs self.now) programme slot }
     {
-        if programme < 1 || programme > self.programmes.len() {
-            return false;
-        }
-        if slot < 1 || slot > self.slots.len() {
-            return false;
-        }
-        fits(&self.programmes[programme - 1], &self.slots[slot - 1])
+        is_within(self.programmes.len(), programme)
+            && is_within(self.slots.len(), slot)
+            && fits(&self.programmes[programme - 1], &self.slots[slot - 1])
     }
 }
 
@@ -56,20 +52,15 @@ impl PairSource for Fit {
     }
 
     fn first_slot(&self, programme: Num, from: usize) -> Option<Num> {
-        for slot in from..=self.slots.len() {
-            if self.is_allowed(programme as usize, slot) {
-                return Some(slot as Num);
-            }
-        }
-        None
+        let from = Num::try_from(from).ok()?;
+        (from..=self.slots()).find(|slot| self.is_allowed(programme as usize, *slot as usize))
     }
 
     fn first_programme(&self, slot: Num, from: usize) -> Option<Num> {
-        for programme in from..=self.programmes.len() {
-            if self.is_allowed(programme, slot as usize) {
-                return Some(programme as Num);
-            }
-        }
-        None
+        let from = Num::try_from(from).ok()?;
+        (from..=self.programmes()).find(|programme| self.is_allowed(
+            *programme as usize,
+            slot as usize,
+        ))
     }
 }

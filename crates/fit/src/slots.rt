@@ -20,7 +20,7 @@ impl Slot {
         ensures answer { refusal_of result ≡ first_refusal (slot_refusals start length) }
         ensures told { IfOk result (λ slot. (slot.start ≡ start) × (slot.length ≡ length)) }
     {
-        if start >= DAY || length < 1 || length > DAY {
+        if start >= DAY || !(1..=DAY).contains(&length) {
             return Err(Refusal::ValueRange);
         }
         Ok(Slot { start, length })

@@ -7,7 +7,7 @@ ghost use Rattle.source.specs.Makes.{make_refusal_of, count_refusals};
 ghost use Rattle.grid.specs.GridPairs.{place as place_of, has_cell, grid_pairs, mark_refusals};
 
 use crate::Grid;
-use refusal::limits::{Num, SIDE};
+use refusal::limits::{Num, SIDE, is_within};
 use refusal::{MakeError, Refusal};
 use std::alloc::Global;
 
@@ -18,16 +18,13 @@ impl Grid {
         ensures pairs { IfOk result (λ grid. grid_pairs grid ≡ empty_pairs programmes slots) }
     {
         if programmes > SIDE || slots > SIDE {
-            return Err(MakeError::Refused(Refusal::Mismatch));
+            return Err(Refusal::Mismatch.into());
         }
-        match vec![in heap; false; SIDE * SIDE] {
-            Ok(cells) => Ok(Grid {
-                programmes: programmes as Num,
-                slots: slots as Num,
-                cells,
-            }),
-            Err(_) => Err(MakeError::NoMemory),
-        }
+        Ok(Grid {
+            programmes: programmes as Num,
+            slots: slots as Num,
+            cells: vec![in heap; false; SIDE * SIDE]?,
+        })
     }
 
     /// Empties the grid and gives it these counts. Refuses 12 when one is over `SIDE`.
@@ -49,10 +46,7 @@ impl Grid {
     pub fn is_inside(&self, programme: usize, slot: usize) -> bool
         ensures { result ≡ inside (grid_pairs self.now) programme slot }
     {
-        1 <= programme
-            && programme <= self.programmes as usize
-            && 1 <= slot
-            && slot <= self.slots as usize
+        is_within(self.programmes as usize, programme) && is_within(self.slots as usize, slot)
     }
 
     /// Whether the pair is within the counts and allowed.

@@ -21,21 +21,16 @@ impl PairSource for Grid {
     }
 
     fn first_slot(&self, programme: Num, from: usize) -> Option<Num> {
-        for slot in from..=self.slots as usize {
-            if self.is_allowed(programme as usize, slot) {
-                return Some(slot as Num);
-            }
-        }
-        None
+        let from = Num::try_from(from).ok()?;
+        (from..=self.slots).find(|slot| self.is_allowed(programme as usize, *slot as usize))
     }
 
     fn first_programme(&self, slot: Num, from: usize) -> Option<Num> {
-        for programme in from..=self.programmes as usize {
-            if self.is_allowed(programme, slot as usize) {
-                return Some(programme as Num);
-            }
-        }
-        None
+        let from = Num::try_from(from).ok()?;
+        (from..=self.programmes).find(|programme| self.is_allowed(
+            *programme as usize,
+            slot as usize,
+        ))
     }
 }
 

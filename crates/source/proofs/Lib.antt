@@ -1,4 +1,5 @@
 pub mod Making
 pub mod Questions
+pub mod Ranges
 pub mod Layers
 pub mod Missing

@@ -1,25 +1,17 @@
-use Rattle.std.proofs.Common.{◌+◌, sym, ◌∙◌, arith}
-use Rattle.refusal.proofs.First.{first_end, first_here, first_on}
+use Rattle.std.proofs.Common.{◌≡◌, ◌≤◌, sym, ◌∙◌, rules, tests, arith}
+use Rattle.refusal.proofs.First.{first_end}
 use Rattle.source.specs.Pairs.{holds}
+use Rattle.source.proofs.Ranges.{range_found}
 use Rattle.fit.specs.Fitting.{fit_pairs}
 use Rattle.fit.proofs.sides.FitPairSource.first_programme.Goals as goal
 
-pub returns-then-is_allowed : goal.returns-then-is_allowed
-returns-then-is_allowed c =
-    let pairs = fit_pairs c.args.self.now in
-    sym (c.loop-programme.invariant ∙ first_here (λ i. holds pairs i c.args.slot) pairs.programmes c.loop-programme.programme (omega (arith, c.args.self.now.programmes.ok.0)) (sym c.if-is_allowed.ensures))
-
-pub loop-programme-preserved : goal.loop-programme-preserved
-loop-programme-preserved c =
-    let pairs = fit_pairs c.args.self.now in
-    c.loop-programme.invariant ∙ first_on (λ i. holds pairs i c.args.slot) _ _ (sym c.if-is_allowed.ensures)
-
-pub returns-else-is_allowed : goal.returns-else-is_allowed
-returns-else-is_allowed c =
-    let pairs = fit_pairs c.args.self.now in
-    sym (c.loop-programme.invariant ∙ first_on (λ i. holds pairs i c.args.slot) _ _ (sym c.if-is_allowed.ensures) ∙ first_end (λ i. holds pairs i c.args.slot) pairs.programmes (c.loop-programme.programme + 1) (omega (arith, c.args.self.now.programmes.ok.0)))
+pub returns-in_err-from : goal.returns-in_err-from
+returns-in_err-from c =
+    let beyond : 256 ≤ c.args.from = search rules in
+    c.from_residual.ensures ∙ sym (first_end (λ i. holds (fit_pairs c.args.self.now) i c.args.slot) (fit_pairs c.args.self.now).programmes c.args.from (omega arith))
 
 pub returns : goal.returns
 returns c =
-    let pairs = fit_pairs c.args.self.now in
-    sym (c.loop-programme.invariant ∙ first_end (λ i. holds pairs i c.args.slot) pairs.programmes c.loop-programme.programme (omega (arith, c.args.self.now.programmes.ok.0)))
+    let same : c.in_ok-from.from ≡ c.args.from = search rules in
+    range_found _ (λ i. holds (fit_pairs c.args.self.now) i c.args.slot) _ (λ x b q k. search (rules, tests)) _ _ c.find.result c.args.from (fit_pairs c.args.self.now).programmes
+    (c.new.ensures.start ∙ same) (c.new.ensures.end ∙ c.programmes.ensures) c.new.ensures.exhausted c.find.ensures.ran

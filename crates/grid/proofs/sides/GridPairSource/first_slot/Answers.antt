@@ -1,25 +1,17 @@
-use Rattle.std.proofs.Common.{◌+◌, sym, ◌∙◌, arith}
-use Rattle.refusal.proofs.First.{first_end, first_here, first_on}
+use Rattle.std.proofs.Common.{◌≡◌, ◌≤◌, sym, ◌∙◌, rules, tests, arith}
+use Rattle.refusal.proofs.First.{first_end}
 use Rattle.source.specs.Pairs.{holds}
+use Rattle.source.proofs.Ranges.{range_found}
 use Rattle.grid.specs.GridPairs.{grid_pairs}
 use Rattle.grid.proofs.sides.GridPairSource.first_slot.Goals as goal
 
-pub returns-then-is_allowed : goal.returns-then-is_allowed
-returns-then-is_allowed c =
-    let pairs = grid_pairs c.args.self.now in
-    sym (c.loop-slot.invariant ∙ first_here (holds pairs c.args.programme) _ _ c.loop-slot-test.true (sym c.if-is_allowed.ensures))
-
-pub loop-slot-preserved : goal.loop-slot-preserved
-loop-slot-preserved c =
-    let pairs = grid_pairs c.args.self.now in
-    c.loop-slot.invariant ∙ first_on (holds pairs c.args.programme) _ _ (sym c.if-is_allowed.ensures)
-
-pub returns-else-is_allowed : goal.returns-else-is_allowed
-returns-else-is_allowed c =
-    let pairs = grid_pairs c.args.self.now in
-    sym (c.loop-slot.invariant ∙ first_on (holds pairs c.args.programme) _ _ (sym c.if-is_allowed.ensures) ∙ first_end (holds pairs c.args.programme) pairs.slots (c.loop-slot.slot + 1) (omega arith))
+pub returns-in_err-from : goal.returns-in_err-from
+returns-in_err-from c =
+    let beyond : 256 ≤ c.args.from = search rules in
+    c.from_residual.ensures ∙ sym (first_end (holds (grid_pairs c.args.self.now) c.args.programme) (grid_pairs c.args.self.now).slots c.args.from (omega arith))
 
 pub returns : goal.returns
 returns c =
-    let pairs = grid_pairs c.args.self.now in
-    sym (c.loop-slot.invariant ∙ first_end (holds pairs c.args.programme) _ _ c.loop-slot-test.false)
+    let same : c.in_ok-from.from ≡ c.args.from = search rules in
+    range_found _ (holds (grid_pairs c.args.self.now) c.args.programme) _ (λ x b q k. search (rules, tests)) _ _ c.find.result c.args.from (grid_pairs c.args.self.now).slots
+    (c.new.ensures.start ∙ same) c.new.ensures.end c.new.ensures.exhausted c.find.ensures.ran
