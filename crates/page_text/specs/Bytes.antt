@@ -1,5 +1,7 @@
 -- The words of a line, and the whole numbers that words write.
 use Rattle.std.specs.Prelude.{ℕ, zero, suc, ◌+◌, ◌-◌, ◌*◌, Bool, cond, ◌&&◌, ◌||◌, List, [], ◌∷◌, ◌++◌, length, Some, None, Option, ◌==◌, nat_le}
+use Rattle.std.specs.List.{slice_split}
+use Rattle.std.specs.Str.{bytes_eq}
 
 -- The blanks: tab, carriage return and space.
 abbrev pub blank : ℕ → Bool
@@ -9,16 +11,6 @@ blank b = (b == 9 || b == 13) || b == 32
 abbrev pub feed : ℕ → Bool
 feed b = b == 10
 
--- A byte put in front of the first piece.
-abbrev pub onto : ℕ → List (List ℕ) → List (List ℕ)
-onto b [] = (b ∷ []) ∷ []
-onto b (w ∷ ws) = (b ∷ w) ∷ ws
-
--- A text cut at each byte that the test picks, which falls away: one piece more than there are such bytes.
-abbrev pub pieces : (ℕ → Bool) → List ℕ → List (List ℕ)
-pieces test [] = [] ∷ []
-pieces test (b ∷ bs) = cond (test b) ([] ∷ pieces test bs) (onto b (pieces test bs))
-
 -- The pieces that are not empty.
 abbrev pub full : List (List ℕ) → List (List ℕ)
 full [] = []
@@ -27,7 +19,13 @@ full ((b ∷ w) ∷ ws) = (b ∷ w) ∷ full ws
 
 -- The words of a line: what stands between blanks.
 abbrev pub words : List ℕ → List (List ℕ)
-words line = full (pieces blank line)
+words line = full (slice_split blank line)
+
+-- What follows the words wanted, if the words of a line begin with them.
+abbrev pub following : List (List ℕ) → List (List ℕ) → Option (List (List ℕ))
+following [] ws = Some ws
+following (v ∷ vs) [] = None
+following (v ∷ vs) (w ∷ ws) = cond (bytes_eq w v) (following vs ws) None
 
 -- The digits 0 to 9.
 abbrev pub digit : ℕ → Bool

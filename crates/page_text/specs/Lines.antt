@@ -1,12 +1,13 @@
 -- The lines of a page, and what one line is by itself.
 use Rattle.std.specs.Prelude.{ℕ, Bool, true, false, cond, ◌&&◌, List, [], ◌∷◌, map, codes, ◌==◌, slice_index}
+use Rattle.std.specs.List.{slice_split}
 use Rattle.std.specs.Char.{to_ascii_lowercase}
 use Rattle.std.specs.Str.{bytes_eq}
 use Rattle.page_text.specs.declared.line.LineKind.{LineKind}
 use Rattle.page_text.specs.declared.line.LineKind.TheVariants.{Blank, Comment, Text}
 use Rattle.page_text.specs.declared.line.PageKind.{PageKind}
 use Rattle.page_text.specs.declared.line.PageKind.TheVariants.{Pairs, Table}
-use Rattle.page_text.specs.Bytes.{feed, pieces, words}
+use Rattle.page_text.specs.Bytes.{feed, words}
 
 -- What follows the last line feed is a line only if it is not empty.
 abbrev pub ended : List (List ℕ) → List (List ℕ)
@@ -17,7 +18,7 @@ ended (w ∷ v ∷ ws) = w ∷ ended (v ∷ ws)
 
 -- The lines of a page, without their line feeds.
 abbrev pub lines : List ℕ → List (List ℕ)
-lines page = ended (pieces feed page)
+lines page = ended (slice_split feed page)
 
 -- Blank where there are no words.
 abbrev pub by_words : List (List ℕ) → LineKind

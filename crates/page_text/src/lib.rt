@@ -2,7 +2,6 @@
 //! which a page is refused.
 #![tactic(auto)]
 
-mod bytes;
 pub mod fault;
 pub mod limits;
 pub mod line;

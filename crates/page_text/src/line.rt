@@ -40,10 +40,7 @@ impl PageKind {
 fn begins_with_percent(line: &[u8]) -> bool
     ensures { result ≡ (slice_index line.now 0 == 37) }
 {
-    if line.is_empty() {
-        return false;
-    }
-    line[0] == b'%'
+    line.starts_with(b"%")
 }
 
 /// The kind of a line.
@@ -51,12 +48,11 @@ pub fn line_kind(line: &[u8]) -> LineKind
     ensures { result ≡ line_kind line.now }
 {
     if begins_with_percent(line) {
-        return LineKind::Comment;
-    }
-    let mut words = Words::of(line);
-    match words.next() {
-        Some(_) => LineKind::Text,
-        None => LineKind::Blank,
+        LineKind::Comment
+    } else if Words::of(line).next().is_none() {
+        LineKind::Blank
+    } else {
+        LineKind::Text
     }
 }
 
@@ -65,19 +61,15 @@ fn same_words(have: &[u8], want: &[u8]) -> bool
     ensures { result ≡ alike (words have.now) (words want.now) }
 {
     let mut have = Words::of(have);
-    let mut want = Words::of(want);
-    while let Some(word) = want.next() {
-        let Some(other) = have.next() else {
-            return false;
-        };
-        if !other.eq_ignore_ascii_case(word) {
+    for word in Words::of(want) {
+        if !have
+            .next()
+            .is_some_and(|other| other.eq_ignore_ascii_case(word))
+        {
             return false;
         }
     }
-    match have.next() {
-        Some(_) => false,
-        None => true,
-    }
+    have.next().is_none()
 }
 
 /// Whether the first word is `%%MatrixMarket` and the others are those of this kind of page.
@@ -85,21 +77,12 @@ fn is_titled(line: &[u8], kind: PageKind) -> bool
     ensures { result ≡ titled (words (header_words kind)) (words line.now) }
 {
     let mut words = Words::of(line);
-    let Some(title) = words.next() else {
-        return false;
-    };
-    if title != b"%%MatrixMarket".as_slice() {
-        return false;
-    }
-    same_words(words.rest, kind.words())
+    words.next() == Some(b"%%MatrixMarket".as_slice()) && same_words(words.rest, kind.words())
 }
 
 /// Whether the line is the header of a page of this kind.
 pub fn is_header(line: &[u8], kind: PageKind) -> bool
     ensures { result ≡ header kind line.now }
 {
-    if !begins_with_percent(line) {
-        return false;
-    }
-    is_titled(line, kind)
+    begins_with_percent(line) && is_titled(line, kind)
 }

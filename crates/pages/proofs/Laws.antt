@@ -3,6 +3,7 @@ use Rattle.std.proofs.Common.{◌≡◌, ℕ, ◌+◌, ◌-◌, ◌≤◌, false
 use Rattle.std.specs.List.{AllByRecursion}
 use Rattle.std.proofs.lemmas.Bool.{cond-true, cond-false, le-ltb, eq-eqb, ne_eqb}
 use Rattle.refusal.specs.declared.Refusal.{Refusal}
+use Rattle.page_text.specs.declared.fault.Fault.{Fault}
 use Rattle.page_text.specs.declared.fault.Page.{Page}
 use Rattle.page_text.specs.Limits.{page_limit, line_limit}
 use Rattle.page_text.specs.Faults.{told}
@@ -11,8 +12,9 @@ use Rattle.page_text.specs.Lines.{lines, line_kind, header}
 use Rattle.pages.specs.declared.stages.Stage.TheVariants.{Size, Entries}
 use Rattle.pages.specs.declared.stages.Task.{Task}
 use Rattle.pages.specs.declared.stages.Task.TheVariants as for
-use Rattle.pages.specs.Stages.{chain, Reading, starting, taken, Format, done, step, reads, read_page}
-use Rattle.pages.specs.PageLaws.{Short, Passed, Says, none, skip, entry, MadeOf, runs}
+use Rattle.pages.specs.Stages.{chain, given, Reading, starting, taken, Format, done, step, reads, read_page}
+use Rattle.pages.specs.PageLaws.{Short, Passed, Says, none, skip, entry, MadeOf, runs, FirstFault}
+use Rattle.pages.proofs.Steps.{given_err}
 
 module _ {X : Type 0} (f : Format X) where
   -- what a short line does, by what it is taken for
@@ -82,3 +84,7 @@ module _ {X : Type 0} (f : Format X) where
   pub first_fault : (page : Page) (bytes : List ℕ) (before after : List (List ℕ)) (l : List ℕ) (s : Reading × X) (w : Refusal) → length bytes ≤ page_limit → lines bytes ≡ before ++ l ∷ after → runs f (starting, f.fresh) before ≡ Ok s → step f s l ≡ Err w → read_page f page bytes ≡ Err (record { refusal = w; line = length before + 1; page = page })
   first_fault page bytes before after l s w h i r e =
       cond-false (ltb page_limit (length bytes)) _ _ (le-ltb page_limit (length bytes) h) ∙ ap (reads f page 0 (starting, f.fresh)) i ∙ fault_after page (starting, f.fresh) s before after l w 0 r e ∙ ap (λ m. Err (record { refusal = w; line = m + 1; page = page })) (omega arith)
+
+  -- the same, of an answer that is what the page says
+  pub answered_first : (page : Page) (bytes : List ℕ) (r : Result (Unit {0}) Fault) (x : X) → given (λ _. x) r ≡ read_page f page bytes → FirstFault f page bytes r
+  answered_first page bytes r x e before after l s w h i t k = given_err (λ _. x) r _ (e ∙ first_fault page bytes before after l s w h i t k)

@@ -1,5 +1,4 @@
 pub mod Steps
-pub mod PairSteps
 pub mod Laws
 pub mod PairLaws
 pub mod TableLaws

@@ -1,5 +1,5 @@
 -- A page made of pairs that fit is read as exactly those pairs.
-use Rattle.std.proofs.Common.{◌≡◌, ℕ, ◌*◌, Bool, true, false, cond, ◌&&◌, ◌||◌, eqb, leb, List, [], ◌∷◌, map, length, Some, Ok, Result, sym, refl, ap, ◌∙◌, ⊎_elim, arith}
+use Rattle.std.proofs.Common.{◌≡◌, ℕ, ◌*◌, Bool, true, false, cond, ◌&&◌, ◌||◌, eqb, leb, List, [], ◌∷◌, map, length, Some, Ok, sym, refl, ap, ◌∙◌, ⊎_elim, arith}
 use mathlib.Core.Path.{fun_ext}
 use Rattle.std.specs.List.{AllByRecursion}
 use Rattle.std.proofs.lemmas.List.{length-map}
@@ -7,14 +7,11 @@ use Rattle.std.proofs.lemmas.Bool.{cases_Bool, cond-true, cond-false, le-leb, an
 use Rattle.refusal.specs.Limits.{side}
 use Rattle.refusal.specs.Counting.{within}
 use Rattle.source.specs.Pairs.{Pairs, with_pair, inside, holds, empty_pairs}
-use Rattle.page_text.specs.declared.fault.Fault.{Fault}
 use Rattle.page_text.specs.declared.fault.Page.{Page}
 use Rattle.page_text.specs.Bytes.{words, numbers}
-use Rattle.pages.specs.Stages.{given}
 use Rattle.pages.specs.PairPages.{pair_format, pair_numbers, pairs_sizes, read_pairs}
-use Rattle.pages.specs.PageLaws.{listed, Apart, ReadsPairs, FirstFault}
-use Rattle.pages.proofs.Laws.{Leads, page_law, first_fault}
-use Rattle.pages.proofs.Steps.{given_err}
+use Rattle.pages.specs.PageLaws.{listed, Apart, ReadsPairs}
+use Rattle.pages.proofs.Laws.{Leads, page_law}
 
 -- a set with the pairs of a list put in, one after another
 abbrev sown : (ℕ → ℕ → Bool) → List (ℕ × ℕ) → ℕ → ℕ → Bool
@@ -85,11 +82,3 @@ pairs_law page bytes rows columns ps m h =
     (ap pairs_sizes m.sized.2 ∙ sized ∙ ap (λ n. Ok (n, empty_pairs rows columns)) (sym (length-map ps (λ (p : ℕ × ℕ). p.0 ∷ p.1 ∷ []))))
     (leads rows columns (λ i s. false) ps h.inner (new_apart (λ i s. false) ps h.apart (all_false ps)))
     ∙ ap (λ f. Ok (pairs rows columns f)) (sown_none ps)
-
--- the same, of an answer that is what the page says
-module _ (page : Page) (bytes : List ℕ) (p : Pairs) (r : Result (Unit {0}) Fault) (e : given (λ x. p) r ≡ read_pairs page bytes) where
-  pub pairs_entries : ReadsPairs bytes (given (λ x. p) r)
-  pairs_entries rows columns ps m h = e ∙ pairs_law page bytes rows columns ps m h
-
-  pub pairs_first : FirstFault pair_format page bytes r
-  pairs_first before after l s w h i t k = given_err (λ x. p) r _ (e ∙ first_fault pair_format page bytes before after l s w h i t k)

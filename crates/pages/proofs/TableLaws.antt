@@ -1,5 +1,5 @@
 -- A page made of values that fit is read as exactly those values, with zeros after them.
-use Rattle.std.proofs.Common.{◌≡◌, ℕ, suc, ◌+◌, ◌-◌, ◌*◌, ◌<◌, ◌≤◌, ◌&&◌, eqb, leb, List, [], ◌∷◌, ◌++◌, map, length, set, replicate, Some, Ok, Result, sym, refl, ap, ◌∙◌, subst, append_assoc, append-nil, arith}
+use Rattle.std.proofs.Common.{◌≡◌, ℕ, suc, ◌+◌, ◌-◌, ◌*◌, ◌<◌, ◌≤◌, ◌&&◌, eqb, leb, List, [], ◌∷◌, ◌++◌, map, length, set, replicate, Some, Ok, Result, sym, refl, ap, ◌∙◌, append_assoc, append-nil, arith}
 use native.Mathlib.Nat.{sub-zero}
 use lib.ListN.{length-replicate}
 use Rattle.std.specs.List.{AllByRecursion}
@@ -12,9 +12,9 @@ use Rattle.page_text.specs.Bytes.{words, numbers}
 use Rattle.pages.specs.declared.table_pages.Columns.{Columns}
 use Rattle.pages.specs.Stages.{chain, given}
 use Rattle.pages.specs.TablePages.{Sheet, width, begun, value_put, table_format, table_numbers, table_limited, value_numbers, read_table, table_left}
-use Rattle.pages.specs.PageLaws.{padded, ValuesFit, ReadsTable, FirstFault, MadeOf}
+use Rattle.pages.specs.PageLaws.{padded, ValuesFit, ReadsTable, MadeOf}
 use Rattle.page_text.specs.declared.line.PageKind.TheVariants as kind-of
-use Rattle.pages.proofs.Laws.{Leads, page_law, first_fault}
+use Rattle.pages.proofs.Laws.{Leads, page_law}
 
 module _ (columns : Columns) (room rows : ℕ) where
   -- the values us are read
@@ -53,23 +53,7 @@ values_law columns room page bytes rows vs m h =
     (leads columns room rows [] vs (omega (arith, h.all, h.fit)) h.small)
 
 -- the same, of an answer and a table that are what the page says
-module _ (columns : Columns) (room : ℕ) (page : Page) (bytes : List ℕ) (r : Result ℕ Fault) (e : r ≡ given (λ sheet. sheet.rows) (read_table columns room page bytes)) where
-  pub table_entries : (table : List ℕ) → table ≡ table_left room (read_table columns room page bytes) → ReadsTable columns room bytes r table
-  table_entries table t rows vs m h =
-      let v = values_law columns room page bytes rows vs m h in
-      (e ∙ ap (given (λ (sheet : Sheet). sheet.rows)) v, t ∙ ap (table_left room) v)
-
-  pub table_first : FirstFault (table_format columns room) page bytes r
-  table_first before after l s w h i t k = e ∙ ap (given (λ (sheet : Sheet). sheet.rows)) (first_fault (table_format columns room) page bytes before after l s w h i t k)
-
--- what is promised of a read, at a room of the same size
-module _ (columns : Columns) (page : Page) (bytes : List ℕ) (r : Result ℕ Fault) (table : List ℕ) where
-  abbrev Promised : ℕ → Type 0
-  Promised room =
-      (r ≡ given (λ sheet. sheet.rows) (read_table columns room page bytes))
-      × (table ≡ table_left room (read_table columns room page bytes))
-      × ReadsTable columns room bytes r table
-      × FirstFault (table_format columns room) page bytes r
-
-  pub same_room : (n m : ℕ) → n ≡ m → Promised n → Promised m
-  same_room n m e p = subst Promised e p
+pub table_entries : (columns : Columns) (room : ℕ) (page : Page) (bytes : List ℕ) (r : Result ℕ Fault) → r ≡ given (λ sheet. sheet.rows) (read_table columns room page bytes) → (table : List ℕ) → table ≡ table_left room (read_table columns room page bytes) → ReadsTable columns room bytes r table
+table_entries columns room page bytes r e table t rows vs m h =
+    let v = values_law columns room page bytes rows vs m h in
+    (e ∙ ap (given (λ (sheet : Sheet). sheet.rows)) v, t ∙ ap (table_left room) v)

@@ -9,7 +9,8 @@ use Rattle.page_text.specs.declared.line.PageKind.TheVariants as kind-of
 use Rattle.page_text.specs.Bytes.{words, numbers}
 use Rattle.pages.specs.declared.table_pages.Columns.{Columns}
 use Rattle.pages.specs.declared.table_pages.Columns.TheVariants.{One, Two}
-use Rattle.pages.specs.declared.table_pages.Filled.{Filled}
+use Rattle.pages.specs.declared.table_pages.Sheet.{Sheet as CodeSheet}
+use Rattle.std.specs.Borrow.{GName}
 use Rattle.pages.specs.Stages.{chain, Format, read_page}
 
 -- The number of columns wanted.
@@ -23,8 +24,17 @@ pub record Sheet : Type 0 where
   pub filled : ℕ
   pub values : List ℕ
 
-abbrev pub sheet_of : Filled → List ℕ → Sheet
-sheet_of filled values = record { rows = filled.rows; filled = filled.values; values = values }
+-- What a read leaves as it is: the columns wanted, how many places the supplied table has, and whose it is.
+pub record Lent : Type 0 where
+  pub columns : Columns
+  pub room : ℕ
+  pub name : GName
+
+abbrev pub sheet_of : CodeSheet → Sheet
+sheet_of s = record { rows = s.rows; filled = s.filled; values = s.table.now }
+
+abbrev pub lent_of : CodeSheet → Lent
+lent_of s = record { columns = s.columns; room = length s.table.now; name = s.table.ghost_name }
 
 -- Sizes within the limits, or 5: at most twice `side` rows, and the columns wanted. Then 13 where the supplied
 -- table, `room` places long, is too short. The answer is the number of values and the rows.

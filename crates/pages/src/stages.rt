@@ -101,14 +101,14 @@ impl PageReader {
         Ok(Task::Entry)
     }
 
-    /// What was read, once the lines are taken, unless one is missing.
-    pub(crate) fn finish<T: Copy>(self, content: T) -> Result<T, Fault>
-        ensures { result ≡ told self.place (ending self.stage self.left content) }
+    /// Whether anything is missing, once the lines are taken.
+    pub(crate) fn finish(self) -> Result<(), Fault>
+        ensures { result ≡ told self.place (ending self.stage self.left tt) }
     {
         match (self.stage, self.left) {
             (Stage::Header, _) => Err(self.place.fault(Refusal::Header)),
             (Stage::Size, _) => Err(self.place.fault(Refusal::SizeLine)),
-            (Stage::Entries, 0) => Ok(content),
+            (Stage::Entries, 0) => Ok(()),
             (Stage::Entries, _) => Err(self.place.fault(Refusal::EntryCount)),
         }
     }

@@ -1,9 +1,13 @@
-use Rattle.std.proofs.Common.{length, arith}
-use Rattle.pages.proofs.TableLaws.{same_room}
+use Rattle.std.proofs.Common.{length, rules, ap}
+use Rattle.pages.specs.Stages.{given as as-given}
+use Rattle.pages.specs.TablePages.{Sheet}
+use Rattle.pages.proofs.TableLaws.{table_entries}
 use Rattle.pages.proofs.table_pages.read_table.Goals as goal
 
-pub returns : goal.returns
-returns c =
-    let p = c.load.ensures in
-    let q = same_room c.args.columns c.args.page c.args.bytes.now c.load.result c.load.new.table _ (length c.args.table.now) (omega arith) (p.answer, p.after, p.entries, p.first) in
-    record { answer = q.0; after = q.1; entries = q.2; first = q.3 }
+pub returns-in_err-read_into-clause-entries : goal.returns-in_err-read_into-clause-entries
+returns-in_err-read_into-clause-entries c =
+    table_entries c.args.columns (length c.args.table.now) c.args.page c.args.bytes.now _ (search rules) _ (search rules)
+
+pub returns-clause-entries : goal.returns-clause-entries
+returns-clause-entries c =
+    table_entries c.args.columns (length c.args.table.now) c.args.page c.args.bytes.now _ (ap (as-given (λ (sheet : Sheet). sheet.rows)) c.in_ok-read_into.ensures.answer) _ (search rules)
