@@ -46,18 +46,12 @@ impl WeekRoom {
     pub fn new(heap: Global) -> Result<WeekRoom, MakeError>
         ensures answer { make_refusal_of result ≡ None }
     {
-        let pairs = Grid::new(heap, 0, 0)?;
-        let programmes = PriorityRoom::new(heap)?;
-        let slots = PriorityRoom::new(heap)?;
-        match vec![in heap; 0u16; 2 * SIDE] {
-            Ok(values) => Ok(WeekRoom {
-                pairs,
-                programmes,
-                slots,
-                values,
-            }),
-            Err(_) => Err(MakeError::NoMemory),
-        }
+        Ok(WeekRoom {
+            pairs: Grid::new(heap, 0, 0)?,
+            programmes: PriorityRoom::new(heap)?,
+            slots: PriorityRoom::new(heap)?,
+            values: vec![in heap; 0u16; 2 * SIDE]?,
+        })
     }
 }
 
