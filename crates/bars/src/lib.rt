@@ -12,7 +12,7 @@ use grid::Grid;
 use refusal::limits::{Num, SIDE};
 use refusal::{MakeError, Refusal};
 use source::layer::first_slot_left;
-use source::mirror::Mirror;
+use source::turned::Turned;
 use source::{OpenSource, PairSource, allows, is_inside};
 use std::alloc::Global;
 
@@ -31,8 +31,10 @@ impl<S: PairSource + Drop> Bars<S> {
         ensures below { IfOk result (λ bars. bars.below ≡ below) }
         ensures pairs { IfOk result (λ bars. barred_pairs (S.PairSource.pairs below) bars.barred ≡ cut (S.PairSource.pairs below)) }
     {
-        let barred = Grid::new(heap, SIDE, SIDE)?;
-        Ok(Bars { below, barred })
+        Ok(Bars {
+            below,
+            barred: Grid::new(heap, SIDE, SIDE)?,
+        })
     }
 }
 
@@ -63,7 +65,7 @@ impl<S: PairSource> PairSource for Bars<S> {
     }
 
     fn first_programme(&self, slot: Num, from: usize) -> Option<Num> {
-        first_slot_left(&Mirror(&self.below), &Mirror(&self.barred), slot, from)
+        first_slot_left(&Turned(&self.below), &Turned(&self.barred), slot, from)
     }
 }
 

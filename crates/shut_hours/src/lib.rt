@@ -9,7 +9,7 @@ use refusal::limits::{Num, SIDE};
 use refusal::tables::entry;
 use source::PairSource;
 use source::layer::{Exclusion, first_slot_left};
-use source::mirror::Mirror;
+use source::turned::Turned;
 
 /// The marks of the shut slots, by slot number. A slot past their end is not shut.
 #[derive(Drop)]
@@ -59,6 +59,6 @@ impl<S: PairSource> PairSource for ShutHours<S> {
     }
 
     fn first_programme(&self, slot: Num, from: usize) -> Option<Num> {
-        first_slot_left(&Mirror(&self.below), &Mirror(&self.shut), slot, from)
+        first_slot_left(&Turned(&self.below), &Turned(&self.shut), slot, from)
     }
 }
