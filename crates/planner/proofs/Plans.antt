@@ -50,8 +50,12 @@ zero_at n zero = refl
 zero_at n (suc k) = get-zeros n k
 
 -- a table of zeros names nobody
-pub zeros-at : (xs : List ℕ) (n : ℕ) → xs ≡ replicate n 0 → (k : ℕ) → at 0 xs k ≡ 0
-zeros-at xs n e k = ap (λ (l : List ℕ). at 0 l k) e ∙ zero_at n k
+pub zeros_at : (xs : List ℕ) (n : ℕ) → xs ≡ replicate n 0 → (k : ℕ) → at 0 xs k ≡ 0
+zeros_at xs n e k = ap (λ (l : List ℕ). at 0 l k) e ∙ zero_at n k
+
+-- parts that fit together with a plan do so with one of the same attendance
+pub fits_kept : {P : Type 0} (pairs : Pairs) (xs ys : List P) (plan plan' : Held) → Lengths plan → Lengths plan' → plan'.attendance ≡ plan.attendance → fits pairs xs ys plan ≡ true → fits pairs xs ys plan' ≡ true
+fits_kept pairs xs ys plan plan' a b e h = let len = same_lengths plan plan' a b e in rw (len.0, len.1) h
 
 -- parts that fit together fit on each side
 pub sides_fit : {P : Type 0} (pairs : Pairs) (xs ys : List P) (plan : Held) → fits pairs xs ys plan ≡ true → (side_fits pairs xs plan ≡ true) × (length plan.programme_in ≡ length ys)
