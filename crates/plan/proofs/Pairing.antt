@@ -4,10 +4,10 @@ use Rattle.std.proofs.lemmas.Bool.{and_parts, cases_eq, cases_lt}
 use Rattle.refusal.specs.Counting.{within}
 use Rattle.refusal.specs.Tables.{at, put}
 use Rattle.refusal.proofs.Counts.{within_bounds}
-use Rattle.refusal.proofs.Entries.{at-put_same, at-put_other, at_past, length-put}
+use Rattle.refusal.proofs.Entries.{at-put_same, at-put_other, at_past, length-put, put_past}
 use Rattle.matching.specs.Lists.{Points}
 use Rattle.plan.specs.Held.{Held, known_pair}
-use Rattle.plan.proofs.Writing.{put_past, at-zeros}
+use Rattle.plan.proofs.Writing.{at-zeros}
 
 -- the numbers of a pair that the plan has
 pub pair_bounds : (h : Held) (i s : ℕ) → true ≡ known_pair h i s → (0 < i) × (i ≤ length h.slot_of) × (0 < s) × (s ≤ length h.programme_in)

@@ -1,8 +1,5 @@
 use Rattle.plan.proofs.Pairing.{points_zeros}
 use Rattle.plan.proofs.Plan.reset.Goals as goal
 
-pub invariant_of-self-clause-there : goal.invariant_of-self-clause-there
-invariant_of-self-clause-there c = points_zeros c.args.programmes _ _ c.refill.ensures.items
-
-pub invariant_of-self-clause-back : goal.invariant_of-self-clause-back
-invariant_of-self-clause-back c = points_zeros c.args.slots _ _ c.refill-2.ensures.items
+pub invariant_of-self : goal.invariant_of-self
+invariant_of-self c = record { there = points_zeros c.args.programmes _ _ c.reset.ensures.places; back = points_zeros c.args.slots _ _ c.reset-2.ensures.places }
