@@ -15,13 +15,10 @@ use Rattle.plan.specs.declared.Member.{Member}
 use Rattle.plan.specs.declared.Member.TheVariants.{Programme, Slot}
 use Rattle.plan.specs.Held.{Held, place_of}
 use Rattle.plan.specs.Counting.{counted_of, counted}
-use Rattle.plan.specs.Parts.{parts_fit, fits, board_of, place_told, whole_refusals, one_refusals}
+use Rattle.plan.specs.Parts.{parts_fit, fits, board_of, place_told, whole_refusals}
 
 pub accepted_whole : (fit : Bool) → true ≡ fit → None ≡ first_refusal (whole_refusals fit)
 accepted_whole fit a = rw (sym a) refl
-
-pub accepted_one : (fit known : Bool) → true ≡ fit → true ≡ known → None ≡ first_refusal (one_refusals fit known)
-accepted_one fit known a b = rw (sym a, sym b) refl
 
 pub some_place : (place : ℕ) → then_some (not (eqb place 0)) place ≡ number_or_none place
 some_place zero = refl

@@ -53,7 +53,8 @@ impl Plan {
         self.place_of(parts, Member::Slot(slot))
     }
 
-    /// The place of the member, or none.
+    /// The member's place, or none. Refuses 12 where the parts do not fit together, then 10 where there
+    /// is no such member.
     fn place_of<S: PairSource, P: Priority + Copy>(
         &self,
         parts: &Parts<S, P>,
@@ -75,7 +76,8 @@ impl Plan {
         Ok((place != 0).then_some(place))
     }
 
-    /// The programmes placed, and the slots filled, of whose priority the question holds.
+    /// The programmes placed, and the slots filled, of whose priority the question holds. Refuses 12
+    /// where the parts do not fit together.
     fn count_sides<S: PairSource, P: Priority + Copy, F: Fn(&P) -> bool + Copy>(
         &self,
         parts: &Parts<S, P>,

@@ -5,8 +5,8 @@ use Rattle.plan.specs.Counting.{counts_in}
 use Rattle.plan.proofs.side.Side.count_placed.Given as goal
 
 abbrev pub invariant-loop-own : goal.invariant-loop-own
-invariant-loop-own g l =
-    (goal.iterator-loop-own g).can_next l.own-iterator × (goal.iterator-loop-own g).is_finite l.own-iterator
-    × (l.counted ≤ length l.yielded)
-    × (length l.yielded ≤ length l.priorities)
-    × ((question : _ → _ → Bool) (other : _) → ((own : _) (told : Bool) → FnReturnsAt g.F.Fn l.asked own told → told ≡ question own other) → l.counted ≡ count (counts_in question l.priorities (vec_items l.self.places) other) (length l.yielded))
+invariant-loop-own g l = record {
+  most : l.counted ≤ length l.yielded;
+  within : length l.yielded ≤ length l.priorities;
+  exact : (question : _ → _ → Bool) (other : _) → ((own : _) (told : Bool) → FnReturnsAt g.F.Fn l.asked own told → told ≡ question own other) → l.counted ≡ count (counts_in question l.priorities (vec_items l.self.places) other) (length l.yielded);
+}
