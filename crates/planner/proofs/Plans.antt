@@ -18,10 +18,10 @@ pub record Lengths (plan : Held) : Type 0 where
 
 pub plan_lengths : (plan : Plan) → Lengths (held plan)
 plan_lengths plan = record {
-  programmes = omega (arith, plan.programmes.1, plan.programmes_present.ok.0, plan.slot_of.ok.0);
-  slots = omega (arith, plan.slots.1, plan.slots_present.ok.0, plan.programme_in.ok.0);
-  few = omega (arith, plan.programmes.0, plan.slot_of.ok.0);
-  few_slots = omega (arith, plan.slots.0, plan.programme_in.ok.0);
+  programmes = omega (arith, plan.programmes.together, plan.programmes.present.ok.0, plan.programmes.places.ok.0);
+  slots = omega (arith, plan.slots.together, plan.slots.present.ok.0, plan.slots.places.ok.0);
+  few = omega (arith, plan.programmes.few, plan.programmes.places.ok.0);
+  few_slots = omega (arith, plan.slots.few, plan.slots.places.ok.0);
 }
 
 -- a plan with the same attendance has the same lengths
