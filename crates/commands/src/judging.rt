@@ -73,15 +73,8 @@ pub fn verdict(
     judge(&plan, &parts, certificate)
 }
 
-/// The room that judging a filed week takes, made before its pages are read.
-#[derive(Drop)]
-pub struct JudgeRoom {
-    filed: FiledRoom,
-    plan: Plan,
-}
-
-impl JudgeRoom {
-    /// Room for the pages of a filed week, for its plan, and for the text that tells the verdict.
+/// The room that judging a filed week takes, made before its pages are read: for them, for the plan, and
+/// for the text that tells the verdict.
 #[derive(Drop)]
 pub struct JudgeRoom {
     filed: FiledRoom,
@@ -103,11 +96,7 @@ impl JudgeRoom {
 }
 
 /// The verdict on the five pages, through the rooms.
-fn verdict_on_pages(
-    filed: FiledRoom,
-    plan: Plan,
-    bytes: &FiledBytes,
-) -> Result<bool, Declined>
+fn verdict_on_pages(filed: FiledRoom, plan: Plan, bytes: &FiledBytes) -> Result<bool, Declined>
     ensures { Judged bytes.now.week.pairs.now bytes.now.week.programmes.now bytes.now.week.slots.now bytes.now.plan.now bytes.now.proof.now result }
 {
     let FiledRead {
