@@ -17,9 +17,11 @@ use Rattle.plan.specs.Held.{Held, place_of}
 use Rattle.plan.specs.Counting.{counted_of, counted}
 use Rattle.plan.specs.Parts.{parts_fit, fits, board_of, place_told, whole_refusals}
 
+-- where the parts fit together, a question about the whole plan is not refused
 pub accepted_whole : (fit : Bool) → true ≡ fit → None ≡ first_refusal (whole_refusals fit)
 accepted_whole fit a = rw (sym a) refl
 
+-- a place that is not 0
 pub some_place : (place : ℕ) → then_some (not (eqb place 0)) place ≡ number_or_none place
 some_place zero = refl
 some_place (suc k) = ap (λ b. then_some (not b) (suc k)) (ne_eqb (suc k) 0 (λ z. omega arith))

@@ -1,8 +1,12 @@
 -- How many of a side have a place, by how their priorities compare with another.
-use Rattle.std.specs.Prelude.{ℕ, Bool, not, ◌&&◌, List, length, Some, ◌==◌}
+use Rattle.std.specs.Prelude.{◌≡◌, ℕ, Bool, not, ◌&&◌, List, length, Some, ◌==◌}
 use Rattle.refusal.specs.Counting.{count}
 use Rattle.refusal.specs.Tables.{at, item, both}
 use Rattle.matching.specs.Board.{Board, Plan, size, ranks, placed, filled}
+
+-- What is told of each priority answers the question about p.
+abbrev pub Answers : {P : Type 0} → (P → Bool → Type 0) → (P → P → Bool) → P → Type 0
+Answers {P} tells question p = (own : P) (told : Bool) → tells own told → told ≡ question own p
 
 -- Member k has a place, and its priority answers the question about p.
 abbrev pub counts_in : {P : Type 0} → (P → P → Bool) → List P → List ℕ → P → ℕ → Bool

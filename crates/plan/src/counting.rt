@@ -1,7 +1,7 @@
 //! How many of a side have a place, by a question about their priorities.
 ghost use Rattle.std.specs.Prelude.{◌≡◌, ◌≤◌, Bool, length};
 ghost use Rattle.std.specs.Fn.{FnReturnsAt};
-ghost use Rattle.plan.specs.Counting.{counted_of};
+ghost use Rattle.plan.specs.Counting.{Answers, counted_of};
 
 use crate::side::Side;
 
@@ -10,7 +10,7 @@ impl Side {
     pub(crate) fn count_placed<P, F: Fn(&P) -> bool>(&self, priorities: &[P], asked: F) -> usize
         requires { F.IsAlwaysCallable asked }
         ensures most { result ≤ length priorities.now }
-        ensures exact { (question : P → P → Bool) (other : P) → ((own : P) (told : Bool) → FnReturnsAt F.Fn asked own told → told ≡ question own other) → result ≡ counted_of question priorities.now self.now.places.items other }
+        ensures exact { (question : P → P → Bool) (other : P) → Answers (FnReturnsAt F.Fn asked) question other → result ≡ counted_of question priorities.now self.now.places.items other }
     {
         let mut counted = 0;
         for (own, place) in priorities.iter().zip(&self.places) {

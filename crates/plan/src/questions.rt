@@ -7,7 +7,7 @@ ghost use Rattle.matching.specs.Board.{slot_of as slot_told, programme_in as pro
 ghost use Rattle.matching.specs.Lists.{plan_of};
 ghost use Rattle.plan.specs.declared.Member.TheVariants.{Programme, Slot};
 ghost use Rattle.plan.specs.Held.{held, known};
-ghost use Rattle.plan.specs.Counting.{counted};
+ghost use Rattle.plan.specs.Counting.{Answers, counted};
 ghost use Rattle.plan.specs.Parts.{fit_with, board_with, place_told, whole_refusals, one_refusals};
 
 use crate::parts::Parts;
@@ -86,7 +86,7 @@ impl Plan {
         requires { F.IsAlwaysCallable asked }
         ensures answer { refusal_of result ≡ first_refusal (whole_refusals (fit_with S.PairSource.pairs parts.now (held self.now))) }
         ensures few { IfOk result (λ counts. (counts.0 ≤ side) × (counts.1 ≤ side)) }
-        ensures told { (question : P → P → Bool) (other : P) → ((own : P) (told : Bool) → FnReturnsAt F.Fn asked own told → told ≡ question own other) → IfOk result (λ counts. counts ≡ counted (board_with P.Priority.reaches S.PairSource.pairs parts.now (held self.now)) (plan_of (held self.now).slot_of) question other) }
+        ensures told { (question : P → P → Bool) (other : P) → Answers (FnReturnsAt F.Fn asked) question other → IfOk result (λ counts. counts ≡ counted (board_with P.Priority.reaches S.PairSource.pairs parts.now (held self.now)) (plan_of (held self.now).slot_of) question other) }
     {
         if !self.fits(parts) {
             return Err(Refusal::Mismatch);
