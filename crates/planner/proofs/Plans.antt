@@ -40,14 +40,14 @@ fit_kept pairs ranking plan plan' a b e fits =
     let d : pairs.slots ≡ length plan'.programme_in = omega (arith, fit.2, len.1) in
     and_from _ _ (eq-eqb _ _ fit.0) (and_from _ _ (eq-eqb _ _ b) (eq-eqb _ _ d))
 
-get-zeros : (n k : ℕ) → ◌≡◌ {A = ℕ} (get_or (replicate n 0) k 0) 0
-get-zeros zero k = refl
-get-zeros (suc n) zero = refl
-get-zeros (suc n) (suc k) = get-zeros n k
+get_zeros : (n k : ℕ) → ◌≡◌ {A = ℕ} (get_or (replicate n 0) k 0) 0
+get_zeros zero k = refl
+get_zeros (suc n) zero = refl
+get_zeros (suc n) (suc k) = get_zeros n k
 
 zero_at : (n k : ℕ) → ◌≡◌ {A = ℕ} (at 0 (replicate n 0) k) 0
 zero_at n zero = refl
-zero_at n (suc k) = get-zeros n k
+zero_at n (suc k) = get_zeros n k
 
 -- a table of zeros names nobody
 pub zeros_at : (xs : List ℕ) (n : ℕ) → xs ≡ replicate n 0 → (k : ℕ) → at 0 xs k ≡ 0

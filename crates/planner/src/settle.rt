@@ -39,9 +39,9 @@ fn drop_unlawful<S: PairSource>(source: &S, plan: &mut Plan)
     ensures after { (x : ℕ) → at 0 (held plan.new).slot_of x ≡ still_slot (holds (S.PairSource.pairs source.now)) (held plan.old).attendance.programmes (held plan.old).attendance.slots (held plan.old).slot_of x }
     ensures attendance { (held plan.new).attendance ≡ (held plan.old).attendance }
 {
-    for i in 0..plan.programmes() {
-        let slot = entry(0, plan.slot_of_table(), i + 1);
-        if !may_stay(source, plan, i as Num + 1, slot) {
+    for programme in 1..=plan.programmes() as Num {
+        let slot = entry(0, plan.slot_of_table(), programme as usize);
+        if !may_stay(source, plan, programme, slot) {
             plan.vacate(slot);
         }
     }
