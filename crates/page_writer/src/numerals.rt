@@ -5,17 +5,19 @@ ghost use Rattle.page_text.specs.Limits.{page_limit};
 ghost use Rattle.page_writer.specs.Texts.{text_of, number_line};
 
 use crate::PageText;
-use itoa::Buffer;
 
 impl PageText {
     /// Adds a number's decimal digits.
+    #[tactic(auto, using(crate::proofs::Digits::decimal_length, crate::proofs::Digits::push_one, crate::proofs::Digits::push_more, crate::proofs::Digits::push_last))]
     pub(crate) fn push_number(&mut self, number: usize)
         requires { length (text_of self.old) + length (decimal number) ≤ page_limit }
         ensures text { text_of self.new ≡ text_of self.old ++ decimal number }
         ensures longer { length (text_of self.new) ≡ length (text_of self.old) + length (decimal number) }
     {
-        let mut digits = Buffer::new();
-        self.push(digits.format(number).as_bytes());
+        if number >= 10 {
+            self.push_number(number / 10);
+        }
+        self.push(&[b'0' + (number % 10) as u8]);
     }
 
     /// Adds a line of numbers.
