@@ -3,16 +3,8 @@ use Rattle.std.proofs.VecSteps.Gaps.{with_items_is}
 use Rattle.priority.specs.Order.{Ordered}
 use Rattle.refusal.specs.Tables.{put}
 use Rattle.plan.specs.Held.{held}
-use Rattle.planner.proofs.Advancing.{root_known, reached_few, advance_stuck, advance_placed}
+use Rattle.planner.proofs.Advancing.{reached_few, advance_stuck, advance_placed}
 use Rattle.planner.proofs.pass.advance.Goals as goal
-
-pub search_from-requires : goal.search_from-requires
-search_from-requires g c =
-    let laws : Ordered g.P.Priority.reaches = record { total = g.met.P.Priority.total; transitive = g.met.P.Priority.transitive } in
-    record {
-      fit = c.requires.fit;
-      known = root_known laws (g.S.PairSource.pairs c.args.source.now) c.args.ranking.now c.args.plan.now c.args.names.now c.args.workspace.now.done.items c.args.root c.requires.fit (omega (arith, c.args.workspace.now.lens.0)) c.requires.clear c.requires.state c.requires.chosen;
-    }
 
 pub name_reached-requires : goal.name_reached-requires
 name_reached-requires g c =

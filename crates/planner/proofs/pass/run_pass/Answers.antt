@@ -2,7 +2,7 @@ use Rattle.std.proofs.Common.{◌≤◌, Bool, false, length, sym, refl, ap, ◌
 use Rattle.refusal.specs.Tables.{at}
 use Rattle.refusal.proofs.Counts.{count_most}
 use Rattle.plan.specs.Held.{Sides, held}
-use Rattle.search.proofs.Agreement.{plan_agrees, none_marked}
+use Rattle.search.proofs.Agreement.{plan_agrees, none_stands}
 use Rattle.search.proofs.Parts.{fit_parts}
 use Rattle.planner.specs.Run.{setting_of, StateOf, Clear, Advanced}
 use Rattle.planner.proofs.Passing.{begin, finish}
@@ -13,7 +13,7 @@ use Rattle.planner.proofs.pass.run_pass.Goals as goal
 
 pub loop-root-init : goal.loop-root-init
 loop-root-init g c =
-    let none = none_marked _ _ (c.fill.ensures.items (λ y e. e)) in
+    let none = none_stands false _ _ (c.fill.ensures.items (λ y e. e)) in
     record {
       going = record {
         moves = no_moves _ _ _ (plan_agrees c.args.plan.now);
@@ -30,14 +30,6 @@ overflow_add-searches g c =
     let most = count_most (at false c.loop-root.workspace.done.items) (length c.args.ranking.now) in
     let few : c.loop-root.searches ≤ 200 = omega (arith, c.loop-root.invariant.searches, (plan_lengths c.args.plan.now).few, fit.1) in
     search rules
-
-pub choose-requires : goal.choose-requires
-choose-requires g c =
-    let plan = c.loop-root.plan in
-    let fit = fit_parts (g.S.PairSource.pairs c.args.source.now) c.args.ranking.now (held c.args.plan.now) c.requires.fit in
-    let same = ap (λ (s : Sides Bool). length s.programmes) c.loop-root.invariant.attendance in
-    let lengths = plan_lengths c.args.plan.now in
-    record { lens = (omega (arith, lengths.programmes, fit.1), omega (arith, lengths.few, fit.1, c.loop-root.workspace.lens.1), omega (arith, lengths.few, fit.1)) }
 
 pub advance-requires : goal.advance-requires
 advance-requires g c =

@@ -1,23 +1,11 @@
 use Rattle.std.proofs.Common.{◌≡◌, true, length, refl, ap, sym, ◌∙◌, arith}
 use Rattle.std.proofs.VecSteps.Gaps.{with_items_is}
-use Rattle.source.specs.Pairs.{holds}
 use Rattle.plan.specs.Held.{held}
 use Rattle.search.specs.Outcomes.{side_fits}
 use Rattle.search.proofs.Agreement.{plan_agrees}
 use Rattle.planner.proofs.Plans.{plan_lengths, sides_fit}
-use Rattle.planner.proofs.Dropping.{clear_slot}
 use Rattle.planner.proofs.Both.{second_fits, second_clear, both_attendance, both_pass, passes_at}
 use Rattle.planner.proofs.settle.pass_both.Goals as goal
-
-pub run_pass-from_programmes-requires : goal.run_pass-from_programmes-requires
-run_pass-from_programmes-requires g c =
-    let pairs = g.S.PairSource.pairs c.args.parts.now.source.now in
-    record {
-      fit = rw c.as_slice-programmes.ensures (sides_fit pairs _ _ (held c.args.plan.now) c.requires.fit).0;
-      len = ap length c.deref_mut.ensures.value ∙ c.requires.lens.0 ∙ sym (ap length c.as_slice-programmes.ensures);
-      unnamed = rw c.deref_mut.ensures.value c.requires.unnamed.0;
-      clear = clear_slot (holds pairs) _ _ _ _ (plan_agrees c.args.plan.now) c.requires.stand;
-    }
 
 pub run_pass-from_slots-requires : goal.run_pass-from_slots-requires
 run_pass-from_slots-requires g c =
