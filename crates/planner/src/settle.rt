@@ -14,7 +14,7 @@ ghost use Rattle.planner.specs.Run.{may_stand, still_slot, AllStand, names_of};
 ghost use Rattle.planner.specs.Settling.{entries};
 
 use crate::certificate::Certificate;
-use crate::pass::run_pass;
+use crate::pass::{View, run_pass};
 use crate::workspace::Workspace;
 use plan::Plan;
 use plan::parts::Parts;
@@ -64,18 +64,17 @@ fn pass_both<S: PairSource, P: Priority + Copy>(
     ensures lens { (length certificate.new.programmes.items ≡ length (ranked parts.now.programmes.now)) × (length certificate.new.slots.items ≡ length (ranked parts.now.slots.now)) }
     ensures searches { result ≤ length (ranked parts.now.programmes.now) + length (ranked parts.now.slots.now) }
 {
-    let programmes = parts.programmes.as_slice();
-    let slots = parts.slots.as_slice();
-    let from_programmes = run_pass(
-        parts.source,
-        programmes,
-        plan,
-        &mut certificate.programmes,
-        workspace,
-    );
+    let view = View {
+        source: parts.source,
+        ranking: parts.programmes.as_slice(),
+    };
+    let from_programmes = run_pass(&view, plan, &mut certificate.programmes, workspace);
     plan.turn();
-    let turned = Mirror(parts.source);
-    let from_slots = run_pass(&turned, slots, plan, &mut certificate.slots, workspace);
+    let turned = View {
+        source: &Mirror(parts.source),
+        ranking: parts.slots.as_slice(),
+    };
+    let from_slots = run_pass(&turned, plan, &mut certificate.slots, workspace);
     plan.turn();
     from_programmes + from_slots
 }

@@ -12,7 +12,7 @@ name_reached-requires g c =
     let dry = rw (← c.marks.ensures) at c.in-Stuck.ensures.told.0 in
     λ k h. omega (
       arith,
-      reached_few laws (g.S.PairSource.pairs c.args.source.now) c.args.ranking.now c.args.plan.now c.args.names.now c.args.workspace.now.done.items c.args.root c.requires.fit (omega (arith, c.args.workspace.now.lens.0)) c.requires.clear c.requires.state c.requires.chosen c.marks.result.now dry k h,
+      reached_few laws (g.S.PairSource.pairs c.args.view.now.source.now) c.args.view.now.ranking.now c.args.plan.now c.args.names.now c.args.workspace.now.done.items c.args.root c.requires.fit (omega (arith, c.args.workspace.now.lens.0)) c.requires.clear c.requires.state c.requires.chosen c.marks.result.now dry k h,
     )
 
 pub returns-in-Stuck : goal.returns-in-Stuck
@@ -21,7 +21,7 @@ returns-in-Stuck g c =
     let dry = rw (← c.marks.ensures) at c.in-Stuck.ensures.told.0 in
     let wrote = with_items_is c.args.workspace.now.done c.write.new.table (c.write.auto.table ∙ c.deref_mut.ensures.len) ∙ c.write.ensures ∙ ap (λ (l : List Bool). put l c.args.root true) c.deref_mut.ensures.value in
     record {
-      after = advance_stuck laws (g.S.PairSource.pairs c.args.source.now) c.args.ranking.now c.args.plan.now c.args.names.now c.args.workspace.now.done.items c.args.root c.requires.fit (omega (arith, c.args.workspace.now.lens.0)) c.requires.clear c.requires.state c.requires.chosen (held c.search_from.new.plan) _ c.marks.result.now _ wrote dry c.name_reached.ensures c.in-Stuck.ensures.told.1;
+      after = advance_stuck laws (g.S.PairSource.pairs c.args.view.now.source.now) c.args.view.now.ranking.now c.args.plan.now c.args.names.now c.args.workspace.now.done.items c.args.root c.requires.fit (omega (arith, c.args.workspace.now.lens.0)) c.requires.clear c.requires.state c.requires.chosen (held c.search_from.new.plan) _ c.marks.result.now _ wrote dry c.name_reached.ensures c.in-Stuck.ensures.told.1;
       attendance = c.in-Stuck.ensures.attendance;
     }
 
@@ -30,6 +30,6 @@ returns-in-Placed g c =
     let laws : Ordered g.P.Priority.reaches = record { total = g.met.P.Priority.total; transitive = g.met.P.Priority.transitive } in
     let wrote = with_items_is c.args.workspace.now.done c.write.new.table (c.write.auto.table ∙ c.deref_mut.ensures.len) ∙ c.write.ensures ∙ ap (λ (l : List Bool). put l c.args.root true) c.deref_mut.ensures.value in
     record {
-      after = advance_placed laws (g.S.PairSource.pairs c.args.source.now) c.args.ranking.now c.args.plan.now c.args.names.now c.args.workspace.now.done.items c.args.root c.requires.fit (omega (arith, c.args.workspace.now.lens.0)) c.requires.clear c.requires.state c.requires.chosen (held c.search_from.new.plan) _ _ wrote c.in-Placed.ensures.told;
+      after = advance_placed laws (g.S.PairSource.pairs c.args.view.now.source.now) c.args.view.now.ranking.now c.args.plan.now c.args.names.now c.args.workspace.now.done.items c.args.root c.requires.fit (omega (arith, c.args.workspace.now.lens.0)) c.requires.clear c.requires.state c.requires.chosen (held c.search_from.new.plan) _ _ wrote c.in-Placed.ensures.told;
       attendance = c.in-Placed.ensures.attendance;
     }

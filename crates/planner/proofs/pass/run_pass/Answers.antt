@@ -26,16 +26,16 @@ loop-root-init g c =
 
 pub overflow_add-searches : goal.overflow_add-searches
 overflow_add-searches g c =
-    let fit = fit_parts (g.S.PairSource.pairs c.args.source.now) c.args.ranking.now (held c.args.plan.now) c.requires.fit in
-    let most = count_most (at false c.loop-root.workspace.done.items) (length c.args.ranking.now) in
+    let fit = fit_parts (g.S.PairSource.pairs c.args.view.now.source.now) c.args.view.now.ranking.now (held c.args.plan.now) c.requires.fit in
+    let most = count_most (at false c.loop-root.workspace.done.items) (length c.args.view.now.ranking.now) in
     let few : c.loop-root.searches ≤ 200 = omega (arith, c.loop-root.invariant.searches, (plan_lengths c.args.plan.now).few, fit.1) in
     search rules
 
 pub advance-requires : goal.advance-requires
 advance-requires g c =
     let reaches = g.P.Priority.reaches in
-    let pairs = g.S.PairSource.pairs c.args.source.now in
-    let ranking = c.args.ranking.now in
+    let pairs = g.S.PairSource.pairs c.args.view.now.source.now in
+    let ranking = c.args.view.now.ranking.now in
     let first = c.args.plan.now in
     let plan = c.loop-root.plan in
     let e = c.loop-root.invariant.attendance in
@@ -50,8 +50,8 @@ advance-requires g c =
 
 pub loop-root-smaller : goal.loop-root-smaller
 loop-root-smaller g c =
-    let pairs = g.S.PairSource.pairs c.args.source.now in
-    let ranking = c.args.ranking.now in
+    let pairs = g.S.PairSource.pairs c.args.view.now.source.now in
+    let ranking = c.args.view.now.ranking.now in
     let plan = held c.loop-root.plan in
     let G = setting_of g.P.Priority.reaches pairs ranking plan.attendance in
     let lengths = plan_lengths c.loop-root.plan in
@@ -60,8 +60,8 @@ loop-root-smaller g c =
 pub loop-root-preserved : goal.loop-root-preserved
 loop-root-preserved g c =
     let reaches = g.P.Priority.reaches in
-    let pairs = g.S.PairSource.pairs c.args.source.now in
-    let ranking = c.args.ranking.now in
+    let pairs = g.S.PairSource.pairs c.args.view.now.source.now in
+    let ranking = c.args.view.now.ranking.now in
     let plan = held c.loop-root.plan in
     let next = held c.advance.new.plan in
     let step = subst (λ (a : Sides Bool). Advanced (setting_of reaches pairs ranking a) plan.slot_of plan.programme_in c.loop-root.workspace.done.items c.in-Some.root next.slot_of next.programme_in c.advance.new.names c.advance.new.workspace.done.items) c.loop-root.invariant.attendance c.advance.ensures.after in
@@ -79,8 +79,8 @@ loop-root-preserved g c =
 pub returns : goal.returns
 returns g c =
     let reaches = g.P.Priority.reaches in
-    let pairs = g.S.PairSource.pairs c.args.source.now in
-    let ranking = c.args.ranking.now in
+    let pairs = g.S.PairSource.pairs c.args.view.now.source.now in
+    let ranking = c.args.view.now.ranking.now in
     let first = held c.args.plan.now in
     let plan = held c.loop-root.plan in
     let e = c.loop-root.invariant.attendance in
