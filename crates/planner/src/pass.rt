@@ -1,6 +1,5 @@
 //! One side's pass.
-ghost use Rattle.std.specs.Prelude.{◌≡◌, ℕ, ◌<◌, ◌≤◌, Bool, true, false, length};
-ghost use Rattle.refusal.specs.Limits.{side};
+ghost use Rattle.std.specs.Prelude.{◌≡◌, ℕ, ◌<◌, ◌≤◌, true, false, length};
 ghost use Rattle.refusal.specs.Counting.{count};
 ghost use Rattle.refusal.specs.Tables.{at};
 ghost use Rattle.plan.specs.Held.{held};

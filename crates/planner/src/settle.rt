@@ -1,6 +1,5 @@
 //! From any plan to a best one: unlawful pairs are dropped, then both sides make their pass.
-ghost use Rattle.std.specs.Prelude.{◌≡◌, ℕ, ◌+◌, ◌<◌, ◌≤◌, Bool, true, false, length, vec_len, OnErr, OnOk};
-ghost use Rattle.refusal.specs.Limits.{side};
+ghost use Rattle.std.specs.Prelude.{◌≡◌, ℕ, ◌+◌, ◌<◌, ◌≤◌, true, false, length, OnErr, OnOk};
 ghost use Rattle.refusal.specs.Refusals.{refusal_of, first_refusal};
 ghost use Rattle.refusal.specs.Tables.{at};
 ghost use Rattle.source.specs.Pairs.{holds};
