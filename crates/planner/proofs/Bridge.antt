@@ -69,9 +69,6 @@ module _ {P : Type 0} {reaches : P → P → Bool} (board : Board reaches) (allo
   free_within : (i : ℕ) → at false members i ≡ true → within (size board.programmes) i ≡ true
   free_within i h = (and_parts (within (size board.programmes) i) _ (free_open i h)).0
 
-  place_within : (s : ℕ) → at false slots s ≡ true → within (size board.slots) s ≡ true
-  place_within s h = (and_parts (within (size board.slots) s) _ (place_open s h)).0
-
   -- the order of the board is that of the table
   ranks_read : (a b : ℕ) → holds_at reaches xs a b ≡ at_least board a b
   ranks_read a b = ap (λ (l : List P). holds_at reaches l a b) (sym st.programmes)

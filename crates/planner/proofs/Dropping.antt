@@ -24,13 +24,6 @@ module _ (allowed : ℕ → ℕ → Bool) (members slots : List Bool) (slot_of :
   none : (x : ℕ) → at 0 slot_of x ≡ 0 → still_slot allowed members slots slot_of x ≡ 0
   none x z = ⊎_elim (λ (h : may_stand allowed members slots x (at 0 slot_of x) ≡ true). still x h ∙ z) (gone x) (cases_Bool (may_stand allowed members slots x (at 0 slot_of x)))
 
-  pub drop_none : (member_in : List ℕ) → Agrees slot_of member_in → Dropping allowed members slots slot_of slot_of member_in 1
-  drop_none member_in ag = record {
-    agrees = ag;
-    before = λ x l. let z : x ≡ 0 = omega arith in ap (at 0 slot_of) z ∙ sym (none x (ap (at 0 slot_of) z));
-    after = λ x l. refl;
-  }
-
   module _ (slot_of' member_in' : List ℕ) (i : ℕ) (i0 : 0 < i) (d : Dropping allowed members slots slot_of slot_of' member_in' i) where
     pub drop_stays : (0 < at 0 slot_of i → may_stand allowed members slots i (at 0 slot_of i) ≡ true) → Dropping allowed members slots slot_of slot_of' member_in' (i + 1)
     drop_stays f =

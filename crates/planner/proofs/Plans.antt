@@ -1,6 +1,5 @@
 -- What the parts of a pass have in common: the tables of a plan, and their lengths.
-use Rattle.std.proofs.Common.{◌≡◌, ℕ, zero, suc, ◌≤◌, Bool, true, eqb, leb, List, length, get_or, replicate, sym, refl, ap, ◌∙◌, arith}
-use Rattle.refusal.specs.Tables.{at}
+use Rattle.std.proofs.Common.{◌≡◌, ◌≤◌, Bool, true, eqb, leb, List, length, sym, ap, ◌∙◌, arith}
 use Rattle.std.proofs.lemmas.Bool.{and_parts, and_from, eq-eqb, eqb-true}
 use Rattle.refusal.specs.Limits.{side}
 use Rattle.source.specs.Pairs.{Pairs}
@@ -14,14 +13,12 @@ pub record Lengths (plan : Held) : Type 0 where
   pub programmes : length plan.attendance.programmes ≡ length plan.slot_of
   pub slots : length plan.attendance.slots ≡ length plan.programme_in
   pub few : length plan.slot_of ≤ side
-  pub few_slots : length plan.programme_in ≤ side
 
 pub plan_lengths : (plan : Plan) → Lengths (held plan)
 plan_lengths plan = record {
   programmes = omega (arith, plan.programmes.together, plan.programmes.present.ok.0, plan.programmes.places.ok.0);
   slots = omega (arith, plan.slots.together, plan.slots.present.ok.0, plan.slots.places.ok.0);
   few = omega (arith, plan.programmes.few, plan.programmes.places.ok.0);
-  few_slots = omega (arith, plan.slots.few, plan.slots.places.ok.0);
 }
 
 -- a plan with the same attendance has the same lengths
@@ -39,19 +36,6 @@ fit_kept pairs ranking plan plan' a b e fits =
     let b : length plan'.slot_of ≡ length ranking = omega (arith, fit.1, len.0) in
     let d : pairs.slots ≡ length plan'.programme_in = omega (arith, fit.2, len.1) in
     and_from _ _ (eq-eqb _ _ fit.0) (and_from _ _ (eq-eqb _ _ b) (eq-eqb _ _ d))
-
-get_zeros : (n k : ℕ) → ◌≡◌ {A = ℕ} (get_or (replicate n 0) k 0) 0
-get_zeros zero k = refl
-get_zeros (suc n) zero = refl
-get_zeros (suc n) (suc k) = get_zeros n k
-
-zero_at : (n k : ℕ) → ◌≡◌ {A = ℕ} (at 0 (replicate n 0) k) 0
-zero_at n zero = refl
-zero_at n (suc k) = get_zeros n k
-
--- a table of zeros names nobody
-pub zeros_at : (xs : List ℕ) (n : ℕ) → xs ≡ replicate n 0 → (k : ℕ) → at 0 xs k ≡ 0
-zeros_at xs n e k = ap (λ (l : List ℕ). at 0 l k) e ∙ zero_at n k
 
 -- parts that fit together with a plan do so with one of the same attendance
 pub fits_kept : {P : Type 0} (pairs : Pairs) (xs ys : List P) (plan plan' : Held) → Lengths plan → Lengths plan' → plan'.attendance ≡ plan.attendance → fits pairs xs ys plan ≡ true → fits pairs xs ys plan' ≡ true

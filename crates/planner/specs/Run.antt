@@ -2,10 +2,11 @@
 use Rattle.std.specs.Prelude.{◌≡◌, ℕ, ◌<◌, Bool, true, false, cond, not, ◌&&◌, List, Some, None, Option, ◌==◌}
 use Rattle.refusal.specs.Tables.{at, put, holds_at}
 use Rattle.source.specs.Pairs.{Pairs, holds}
-use Rattle.plan.specs.Held.{Sides}
+use Rattle.plan.specs.Held.{Held, Sides}
 use Rattle.matching.specs.Certificate.{Certificate}
 use Rattle.search.specs.Scene.{Agrees}
 use Rattle.search.specs.Search.{Lawful}
+use Rattle.planner.specs.declared.pass.View.{View}
 use Rattle.planner.specs.Pass.{Stage, turn_stage, State, Chosen, Settled}
 
 -- What a pass over tables reads.
@@ -21,6 +22,10 @@ setting allowed reaches members slots = record { allowed = allowed; reaches = re
 -- What a pass for the programmes reads: the source, their ranking, and who is present.
 abbrev pub setting_of : {P : Type 0} → (P → P → Bool) → Pairs → List P → Sides Bool → Setting
 setting_of reaches pairs ranking attendance = setting (holds pairs) (holds_at reaches ranking) attendance.programmes attendance.slots
+
+-- What a pass for the programmes of a plan reads, of what is in view.
+abbrev pub setting_in : {S P : Type 0} → (P → P → Bool) → (S → Pairs) → View S P → Held → Setting
+setting_in reaches pairs view plan = setting_of reaches (pairs view.source.now) view.ranking.now plan.attendance
 
 -- The stage that a setting is, its tables read by number.
 abbrev pub stage_of : Setting → Stage

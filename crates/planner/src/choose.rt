@@ -1,5 +1,5 @@
 //! Whom a pass takes next: the highest who waits.
-ghost use Rattle.std.specs.Prelude.{◌≡◌, ℕ, ◌≤◌, Bool, true, length, if◌then◌else◌};
+ghost use Rattle.std.specs.Prelude.{◌≡◌, ℕ, ◌≤◌, true, length};
 ghost use Rattle.refusal.specs.Limits.{side};
 ghost use Rattle.refusal.specs.Counting.{within};
 ghost use Rattle.refusal.specs.Tables.{holds_at};

@@ -1,6 +1,5 @@
 //! From any plan to a best one: unlawful pairs are dropped, then both sides make their pass.
-ghost use Rattle.std.specs.Prelude.{◌≡◌, ℕ, ◌+◌, ◌<◌, ◌≤◌, Bool, true, false, length, vec_len, OnErr, OnOk};
-ghost use Rattle.refusal.specs.Limits.{side};
+ghost use Rattle.std.specs.Prelude.{◌≡◌, ℕ, ◌+◌, ◌<◌, ◌≤◌, true, false, length, OnErr, OnOk};
 ghost use Rattle.refusal.specs.Refusals.{refusal_of, first_refusal};
 ghost use Rattle.refusal.specs.Tables.{at};
 ghost use Rattle.source.specs.Pairs.{holds};
@@ -14,7 +13,7 @@ ghost use Rattle.planner.specs.Run.{may_stand, still_slot, AllStand, names_of};
 ghost use Rattle.planner.specs.Settling.{entries};
 
 use crate::certificate::Certificate;
-use crate::pass::run_pass;
+use crate::pass::{View, run_pass};
 use crate::workspace::Workspace;
 use plan::Plan;
 use plan::parts::Parts;
@@ -64,18 +63,17 @@ fn pass_both<S: PairSource, P: Priority + Copy>(
     ensures lens { (length certificate.new.programmes.items ≡ length (ranked parts.now.programmes.now)) × (length certificate.new.slots.items ≡ length (ranked parts.now.slots.now)) }
     ensures searches { result ≤ length (ranked parts.now.programmes.now) + length (ranked parts.now.slots.now) }
 {
-    let programmes = parts.programmes.as_slice();
-    let slots = parts.slots.as_slice();
-    let from_programmes = run_pass(
-        parts.source,
-        programmes,
-        plan,
-        &mut certificate.programmes,
-        workspace,
-    );
+    let view = View {
+        source: parts.source,
+        ranking: parts.programmes.as_slice(),
+    };
+    let from_programmes = run_pass(&view, plan, &mut certificate.programmes, workspace);
     plan.turn();
-    let turned = Turned(parts.source);
-    let from_slots = run_pass(&turned, slots, plan, &mut certificate.slots, workspace);
+    let turned = View {
+        source: &Turned(parts.source),
+        ranking: parts.slots.as_slice(),
+    };
+    let from_slots = run_pass(&turned, plan, &mut certificate.slots, workspace);
     plan.turn();
     from_programmes + from_slots
 }

@@ -23,13 +23,13 @@ mark_in m k h = (within_bounds (length m) k (mark_within m k h)).1
 pub mark_pos : (m : List Bool) (k : ℕ) → at false m k ≡ true → 0 < k
 mark_pos m k h = (within_bounds (length m) k (mark_within m k h)).0
 
--- nobody is marked
-false_at : (n k : ℕ) → at false (replicate n false) k ≡ false
-false_at n zero = refl
-false_at n (suc k) = grind (arith, common_steps)
+-- nothing stands in a table that is made of none
+at_replicate : {X : Type 0} (none : X) (n k : ℕ) → at none (replicate n none) k ≡ none
+at_replicate none n zero = refl
+at_replicate none n (suc k) = grind (arith, common_steps)
 
-pub none_marked : (marks : List Bool) (n : ℕ) → marks ≡ replicate n false → (k : ℕ) → at false marks k ≡ false
-none_marked marks n e k = rw e (false_at n k)
+pub none_stands : {X : Type 0} (none : X) (xs : List X) (n : ℕ) → xs ≡ replicate n none → (k : ℕ) → at none xs k ≡ none
+none_stands none xs n e k = rw e (at_replicate none n k)
 
 -- ---- moves
 -- member x went from its slot, if it had one, to the slot s

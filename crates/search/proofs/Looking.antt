@@ -173,17 +173,6 @@ led_more S q q' d B B' x next s kept b below f here t h o p = ⊎_elim
     (cases_lt t s))
     (cases_lt t next)
 
-pub start_step : (S : Scene) (q : List Reached) (m : List Bool) (i : ℕ) → Chain S q → Marks q m → Levels q i
-    → ((x t : ℕ) → S.allowed x t ≡ true → 0 < t) → Looking S q m i q m None 1
-start_step S q m i c k lv w = record {
-  chain = c;
-  marks = k;
-  levels = lv;
-  grown = record { more = omega arith; same = λ j h. refl; level = λ j h. refl; kept = λ y h. h };
-  led = λ t h o. absurd (let z : ⊥ = omega (arith, w (who q i) t o) in z);
-  under = tt;
-}
-
 module _ (S : Scene) (q₀ : List Reached) (m₀ : List Bool) (i : ℕ) (q : List Reached) (m : List Bool) (lower : Option ℕ) (next : ℕ)
     (i_in : i < length q₀) (l : Looking S q₀ m₀ i q m lower next) where
   deep_is : depth_of q i ≡ depth_of q₀ i

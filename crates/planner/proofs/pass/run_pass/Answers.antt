@@ -2,7 +2,7 @@ use Rattle.std.proofs.Common.{◌≤◌, Bool, false, length, sym, refl, ap, ◌
 use Rattle.refusal.specs.Tables.{at}
 use Rattle.refusal.proofs.Counts.{count_most}
 use Rattle.plan.specs.Held.{Sides, held}
-use Rattle.search.proofs.Agreement.{plan_agrees, none_marked}
+use Rattle.search.proofs.Agreement.{plan_agrees, none_stands}
 use Rattle.search.proofs.Parts.{fit_parts}
 use Rattle.planner.specs.Run.{setting_of, StateOf, Clear, Advanced}
 use Rattle.planner.proofs.Passing.{begin, finish}
@@ -13,7 +13,7 @@ use Rattle.planner.proofs.pass.run_pass.Goals as goal
 
 pub loop-root-init : goal.loop-root-init
 loop-root-init g c =
-    let none = none_marked _ _ (c.fill.ensures.items (λ y e. e)) in
+    let none = none_stands false _ _ (c.fill.ensures.items (λ y e. e)) in
     record {
       going = record {
         moves = no_moves _ _ _ (plan_agrees c.args.plan.now);
@@ -26,24 +26,16 @@ loop-root-init g c =
 
 pub overflow_add-searches : goal.overflow_add-searches
 overflow_add-searches g c =
-    let fit = fit_parts (g.S.PairSource.pairs c.args.source.now) c.args.ranking.now (held c.args.plan.now) c.requires.fit in
-    let most = count_most (at false c.loop-root.workspace.done.items) (length c.args.ranking.now) in
+    let fit = fit_parts (g.S.PairSource.pairs c.args.view.now.source.now) c.args.view.now.ranking.now (held c.args.plan.now) c.requires.fit in
+    let most = count_most (at false c.loop-root.workspace.done.items) (length c.args.view.now.ranking.now) in
     let few : c.loop-root.searches ≤ 200 = omega (arith, c.loop-root.invariant.searches, (plan_lengths c.args.plan.now).few, fit.1) in
     search rules
-
-pub choose-requires : goal.choose-requires
-choose-requires g c =
-    let plan = c.loop-root.plan in
-    let fit = fit_parts (g.S.PairSource.pairs c.args.source.now) c.args.ranking.now (held c.args.plan.now) c.requires.fit in
-    let same = ap (λ (s : Sides Bool). length s.programmes) c.loop-root.invariant.attendance in
-    let lengths = plan_lengths c.args.plan.now in
-    record { lens = (omega (arith, lengths.programmes, fit.1), omega (arith, lengths.few, fit.1, c.loop-root.workspace.lens.1), omega (arith, lengths.few, fit.1)) }
 
 pub advance-requires : goal.advance-requires
 advance-requires g c =
     let reaches = g.P.Priority.reaches in
-    let pairs = g.S.PairSource.pairs c.args.source.now in
-    let ranking = c.args.ranking.now in
+    let pairs = g.S.PairSource.pairs c.args.view.now.source.now in
+    let ranking = c.args.view.now.ranking.now in
     let first = c.args.plan.now in
     let plan = c.loop-root.plan in
     let e = c.loop-root.invariant.attendance in
@@ -58,8 +50,8 @@ advance-requires g c =
 
 pub loop-root-smaller : goal.loop-root-smaller
 loop-root-smaller g c =
-    let pairs = g.S.PairSource.pairs c.args.source.now in
-    let ranking = c.args.ranking.now in
+    let pairs = g.S.PairSource.pairs c.args.view.now.source.now in
+    let ranking = c.args.view.now.ranking.now in
     let plan = held c.loop-root.plan in
     let G = setting_of g.P.Priority.reaches pairs ranking plan.attendance in
     let lengths = plan_lengths c.loop-root.plan in
@@ -68,8 +60,8 @@ loop-root-smaller g c =
 pub loop-root-preserved : goal.loop-root-preserved
 loop-root-preserved g c =
     let reaches = g.P.Priority.reaches in
-    let pairs = g.S.PairSource.pairs c.args.source.now in
-    let ranking = c.args.ranking.now in
+    let pairs = g.S.PairSource.pairs c.args.view.now.source.now in
+    let ranking = c.args.view.now.ranking.now in
     let plan = held c.loop-root.plan in
     let next = held c.advance.new.plan in
     let step = subst (λ (a : Sides Bool). Advanced (setting_of reaches pairs ranking a) plan.slot_of plan.programme_in c.loop-root.workspace.done.items c.in-Some.root next.slot_of next.programme_in c.advance.new.names c.advance.new.workspace.done.items) c.loop-root.invariant.attendance c.advance.ensures.after in
@@ -87,8 +79,8 @@ loop-root-preserved g c =
 pub returns : goal.returns
 returns g c =
     let reaches = g.P.Priority.reaches in
-    let pairs = g.S.PairSource.pairs c.args.source.now in
-    let ranking = c.args.ranking.now in
+    let pairs = g.S.PairSource.pairs c.args.view.now.source.now in
+    let ranking = c.args.view.now.ranking.now in
     let first = held c.args.plan.now in
     let plan = held c.loop-root.plan in
     let e = c.loop-root.invariant.attendance in

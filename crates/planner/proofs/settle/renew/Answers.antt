@@ -4,9 +4,10 @@ use Rattle.priority.specs.Order.{Ordered}
 use Rattle.source.specs.Pairs.{holds}
 use Rattle.plan.specs.Held.{Sides, held}
 use Rattle.plan.specs.Parts.{ranked}
+use Rattle.search.proofs.Agreement.{none_stands}
 use Rattle.search.proofs.Parts.{fit_parts}
 use Rattle.planner.specs.Run.{AllStand}
-use Rattle.planner.proofs.Plans.{plan_lengths, same_lengths, fits_kept, sides_fit, zeros_at}
+use Rattle.planner.proofs.Plans.{plan_lengths, same_lengths, fits_kept, sides_fit}
 use Rattle.planner.proofs.Dropping.{all_stand}
 use Rattle.planner.proofs.Both.{passes_at, pass_judged, pass_best}
 use Rattle.planner.proofs.settle.renew.Goals as goal
@@ -25,7 +26,7 @@ pass_both-workspace-requires g c =
     record {
       fit = fits_kept pairs xs ys (held plan) (held dropped) (plan_lengths plan) (plan_lengths dropped) e c.requires.fit;
       lens = (ap length c.clear_names.ensures.programmes ∙ length-replicate _ _ ∙ c.programmes.ensures ∙ len.0 ∙ fit.1, ap length c.clear_names.ensures.slots ∙ length-replicate _ _ ∙ c.slots.ensures ∙ len.1 ∙ sides.1);
-      unnamed = (zeros_at _ _ c.clear_names.ensures.programmes, zeros_at _ _ c.clear_names.ensures.slots);
+      unnamed = (none_stands 0 _ _ c.clear_names.ensures.programmes, none_stands 0 _ _ c.clear_names.ensures.slots);
       stand = subst (λ (a : Sides Bool). AllStand (holds pairs) a.programmes a.slots (held dropped).slot_of) (sym e) (all_stand (holds pairs) (held plan).attendance.programmes (held plan).attendance.slots (held plan).slot_of (held dropped).slot_of c.drop_unlawful.ensures.after);
     }
 

@@ -1,10 +1,10 @@
-use Rattle.std.proofs.Common.{length, refl, sym, ◌∙◌, arith}
+use Rattle.std.proofs.Common.{false, length, refl, sym, ◌∙◌, arith}
 use Rattle.std.proofs.lemmas.List.{get_or_read_under}
 use Rattle.search.specs.Views.{seen}
 use Rattle.search.specs.Search.{nobody}
 use Rattle.refusal.proofs.Counts.{within_from}
 use Rattle.priority.proofs.Compare.{place_itself}
-use Rattle.search.proofs.Agreement.{none_marked}
+use Rattle.search.proofs.Agreement.{none_stands}
 use Rattle.search.proofs.Searching.{begin_step, next_step, found_empty, past_step, dry}
 use Rattle.search.proofs.find.find.Goals as goal
 
@@ -14,7 +14,7 @@ loop-next-init g c =
     let root = c.args.view.now.root in
     let self = place_itself {reaches = g.P.Priority.reaches} (record { total = g.met.P.Priority.total; transitive = g.met.P.Priority.transitive }) c.args.view.now.ranking.now root (within_from _ root (omega arith) (omega arith)) in
     record {
-      searching = rw (c.grow.ensures.queue, c.grow.ensures.marks, c.clear.ensures.items) (begin_step sc c.fill.new.self (none_marked _ _ (c.fill.ensures.after (λ y e. e))) (omega arith) (omega arith) self c.requires.root_new);
+      searching = rw (c.grow.ensures.queue, c.grow.ensures.marks, c.clear.ensures.items) (begin_step sc c.fill.new.self (none_stands false _ _ (c.fill.ensures.after (λ y e. e))) (omega arith) (omega arith) self c.requires.root_new);
       capacity = omega arith;
     }
 
