@@ -1,5 +1,5 @@
 -- Pairs in which nobody stands twice, and the plan filled from them.
-use Rattle.std.proofs.Common.{◌≡◌, ℕ, ◌+◌, ◌<◌, ◌≤◌, Bool, true, false, not, List, [], ◌∷◌, length, replicate, IfOk, Some, None, Ok, Err, Option, Result, sym, refl, ap, ◌∙◌, subst, ⊎_elim, arith}
+use Rattle.std.proofs.Common.{◌≡◌, ℕ, zero, suc, ◌+◌, ◌<◌, ◌≤◌, Bool, true, false, not, List, [], ◌∷◌, length, get_or, replicate, IfOk, Some, None, Ok, Err, Option, Result, sym, refl, ap, ◌∙◌, subst, ⊎_elim, arith}
 use lib.ListN.{length-replicate}
 use Rattle.std.proofs.lemmas.Bool.{cases_eq, and_parts, and_from, both_ways, le-leb}
 use Rattle.refusal.specs.Counting.{count, within}
@@ -14,7 +14,16 @@ use Rattle.matching.specs.Lists.{plan_of, Points}
 use Rattle.matching.proofs.Lists.{plan_parts, plan_from}
 use Rattle.plan.specs.Held.{Held, assigned, nothing, everyone, known_pair, pair_refusals}
 use Rattle.plan.specs.Filling.{twice, first_twice, SameCounts, with_slot, PlanOf}
-use Rattle.plan.proofs.Writing.{at-zeros}
+
+-- a table of zeros
+get-zeros : (n k : ℕ) → ◌≡◌ {A = ℕ} (get_or (replicate n 0) k 0) 0
+get-zeros zero k = refl
+get-zeros (suc n) zero = refl
+get-zeros (suc n) (suc k) = get-zeros n k
+
+at-zeros : (n k : ℕ) → ◌≡◌ {A = ℕ} (at 0 (replicate n 0) k) 0
+at-zeros n zero = refl
+at-zeros n (suc k) = get-zeros n k
 
 -- two that pass count as two
 two_pass : (f : ℕ → Bool) (n y z : ℕ) → within n y ≡ true → within n z ≡ true → (z ≡ y → ⊥) → f y ≡ true → f z ≡ true → 2 ≤ count f n
