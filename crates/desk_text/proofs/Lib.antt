@@ -1,3 +1,1 @@
-mod Following
 mod Orders
-mod Entries

@@ -2,10 +2,6 @@ use Rattle.std.proofs.Common.{sym, ◌∙◌}
 use Rattle.desk_text.proofs.Orders.{form_found, form_other, no_form}
 use Rattle.desk_text.proofs.reading.first_order.Goals as goal
 
-pub returns-in-Some : goal.returns-in-Some
-returns-in-Some c =
-    c.form_order.ensures ∙ sym (form_found _ _ _ c.loop-form.invariant _ _ _ c.loop-form-test.true c.in-Some.ensures)
-
 pub loop-form-preserved : goal.loop-form-preserved
 loop-form-preserved c = form_other _ _ _ c.loop-form.invariant _ c.loop-form-test.true c.in_default.ensures
 
