@@ -1,17 +1,16 @@
 -- A written line is read back: its words, its numbers, its kind.
 use Rattle.std.proofs.Common.{◌≡◌, ℕ, ◌+◌, ◌-◌, ◌*◌, ◌^◌, ◌<◌, ◌≤◌, Bool, true, false, not, ◌&&◌, eqb, leb, List, [], ◌∷◌, ◌++◌, map, length, get_or, Some, decimal, sym, refl, ap, ◌∙◌, append_assoc, append-nil, arith, length-append, rules}
-use Rattle.std.specs.List.{flat_map, AllByRecursion}
+use Rattle.std.specs.List.{flat_map, AllByRecursion, slice_split, onto_first}
+use Rattle.std.proofs.lemmas.List.Splits.{slice_split-cons_yes, slice_split-cons_no}
 use Rattle.std.specs.Char.{is_ascii_digit}
 use Rattle.std.specs.Str.{all_ascii_digits}
 use Rattle.std.proofs.lemmas.Str.Parse.{IsNumeralModel, numerals_by_fold}
 use Rattle.std.proofs.lemmas.Fmt.{digits_decimal, digits_value-decimal, decimal_nonempty}
-use Rattle.std.proofs.lemmas.Bool.{cond-true, and_parts, leb-true, ne_eqb, not-true}
+use Rattle.std.proofs.lemmas.Bool.{cond-true, cond-false, and_from, and_parts, le-leb, leb-true, ne_eqb, not-true}
 use Rattle.page_text.specs.declared.line.LineKind.TheVariants.{Text}
-use Rattle.page_text.specs.Bytes.{blank, feed, onto, pieces, full, words, digit, digits, whole, numbers, plus}
-use Rattle.page_text.specs.Lines.{ended, lines, line_kind}
-use Rattle.page_text.proofs.Cuts.{pieces_yes, pieces_no, pieces_reach}
-use Rattle.page_text.proofs.Numbers.{whole_fits}
-use Rattle.page_text.proofs.Headers.{kind_text}
+use Rattle.page_text.specs.Bytes.{blank, feed, full, words, digit, digits, whole, numbers, plus}
+use Rattle.page_text.specs.Lines.{ended, lines, by_words, line_kind}
+use Rattle.page_text.proofs.Cuts.{split_first}
 use Rattle.page_writer.specs.Texts.{spaced, number_text, number_line}
 use Rattle.page_writer.proofs.Digits.{decimal_short}
 
@@ -32,24 +31,24 @@ pub free_clear : (test : ℕ → Bool) (w : List ℕ) → clear test w ≡ true 
 free_clear test [] h = tt
 free_clear test (b ∷ w) h = let t = and_parts (not (test b)) (clear test w) h in (not-true (test b) t.0, free_clear test w t.1)
 
-pieces_cut : (test : ℕ → Bool) (w : List ℕ) (d : ℕ) (rest : List ℕ) → Free test w → test d ≡ true → pieces test (w ++ d ∷ rest) ≡ w ∷ pieces test rest
-pieces_cut test [] d rest f e = pieces_yes test d rest e
-pieces_cut test (b ∷ w) d rest f e = pieces_no test b (w ++ d ∷ rest) f.0 ∙ ap (onto b) (pieces_cut test w d rest f.1 e)
+split_cut : (test : ℕ → Bool) (w : List ℕ) (d : ℕ) (rest : List ℕ) → Free test w → test d ≡ true → slice_split test (w ++ d ∷ rest) ≡ w ∷ slice_split test rest
+split_cut test [] d rest f e = slice_split-cons_yes test d rest e
+split_cut test (b ∷ w) d rest f e = slice_split-cons_no test b (w ++ d ∷ rest) f.0 ∙ ap (onto_first b) (split_cut test w d rest f.1 e)
 
-pieces_last : (test : ℕ → Bool) (w : List ℕ) → Free test w → pieces test w ≡ w ∷ []
-pieces_last test [] f = refl
-pieces_last test (b ∷ w) f = pieces_no test b w f.0 ∙ ap (onto b) (pieces_last test w f.1)
+split_last : (test : ℕ → Bool) (w : List ℕ) → Free test w → slice_split test w ≡ w ∷ []
+split_last test [] f = refl
+split_last test (b ∷ w) f = slice_split-cons_no test b w f.0 ∙ ap (onto_first b) (split_last test w f.1)
 
 words_cut : (w rest : List ℕ) → Free blank w → 0 < length w → words (w ++ 32 ∷ rest) ≡ w ∷ words rest
 words_cut [] rest f h = absurd (omega arith)
-words_cut (b ∷ w) rest f h = ap full (pieces_cut blank (b ∷ w) 32 rest f refl)
+words_cut (b ∷ w) rest f h = ap full (split_cut blank (b ∷ w) 32 rest f refl)
 
 words_last : (w : List ℕ) → Free blank w → 0 < length w → words w ≡ w ∷ []
 words_last [] f h = absurd (omega arith)
-words_last (b ∷ w) f h = ap full (pieces_last blank (b ∷ w) f)
+words_last (b ∷ w) f h = ap full (split_last blank (b ∷ w) f)
 
 pub lines_cut : (l rest : List ℕ) → Free feed l → lines (l ++ 10 ∷ rest) ≡ l ∷ lines rest
-lines_cut l rest f = ap ended (pieces_cut feed l 10 rest f refl ∙ ap (λ ps. l ∷ ps) (pieces_reach feed rest)) ∙ ap (λ ps. l ∷ ended ps) (sym (pieces_reach feed rest))
+lines_cut l rest f = ap ended (split_cut feed l 10 rest f refl ∙ ap (λ ps. l ∷ ps) (split_first feed rest)) ∙ ap (λ ps. l ∷ ended ps) (sym (split_first feed rest))
 
 -- digits
 abbrev read_on : ℕ → List ℕ → ℕ
@@ -98,7 +97,7 @@ module _ (n : ℕ) (h : n < 10 ^ 9) where
 
   -- a written number is read back
   whole_decimal : whole (decimal n) ≡ Some n
-  whole_decimal = whole_fits (decimal n) decimal_long (decimal_short n h) ∙ digits_read 0 (decimal n) decimal_digits ∙ ap Some (digits_value-decimal own n (omega arith))
+  whole_decimal = cond-true (leb 1 (length (decimal n)) && leb (length (decimal n)) 9) _ _ (and_from _ _ (le-leb 1 (length (decimal n)) decimal_long) (le-leb (length (decimal n)) 9 (decimal_short n h))) ∙ digits_read 0 (decimal n) decimal_digits ∙ ap Some (digits_value-decimal own n (omega arith))
 
 abbrev pub Small : List ℕ → Type 0
 Small ns = AllByRecursion (λ n. n < 10 ^ 9) ns
@@ -129,7 +128,7 @@ module _ (n : ℕ) (ns : List ℕ) (h : n < 10 ^ 9) (a : Small ns) where
   numbers_line = ap (numbers (length (n ∷ ns))) (words_line n ns h a) ∙ numbers_decimals (n ∷ ns) (h, a)
 
   pub kind_line : line_kind (number_text n ns) ≡ Text
-  kind_line = kind_text (number_text n ns) (decimal n) (map decimal ns) (first_digit (decimal n) (flat_map spaced ns) (decimal_digits n h) (decimal_long n h)) (words_line n ns h a)
+  kind_line = cond-false (eqb (get_or (number_text n ns) 0 0) 37) _ _ (first_digit (decimal n) (flat_map spaced ns) (decimal_digits n h) (decimal_long n h)) ∙ ap by_words (words_line n ns h a)
 
   pub short_line : length (number_text n ns) ≤ 10 * (1 + length ns)
   short_line = omega (arith, length-append (decimal n) (flat_map spaced ns), decimal_short n h, spaced_short ns a)

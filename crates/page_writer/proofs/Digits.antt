@@ -1,22 +1,9 @@
 -- Lemmas on how numbers are written.
-use Rattle.std.proofs.Common.{◌≡◌, ℕ, zero, suc, ◌+◌, ◌/◌, ◌%◌, ◌^◌, ◌<◌, ◌≤◌, List, [], ◌∷◌, ◌++◌, length, get_or, take, decimal, sym, ap, ◌∙◌, append_assoc, arith}
+use Rattle.std.proofs.Common.{◌≡◌, ℕ, zero, suc, ◌+◌, ◌^◌, ◌<◌, ◌≤◌, List, [], ◌∷◌, ◌++◌, length, get_or, take, decimal, sym, ap, ◌∙◌, append_assoc, arith}
 use Rattle.std.specs.List.{flat_map, AllByRecursion}
-use Rattle.std.proofs.lemmas.List.{length_push, flat_map_more, take_more, take_all}
-use Rattle.std.proofs.lemmas.Fmt.{decimal_digit, decimal_step, length-decimal-le}
-use Rattle.page_writer.specs.Texts.{spaced, number_line}
-
-pub decimal_length : (n : ℕ) → 10 ≤ n → n < 2 ^ 64 → length (decimal n) ≡ length (decimal (n / 10)) + 1
-decimal_length n h k = ap length (decimal_step n h k) ∙ length_push (decimal (n / 10)) (48 + n % 10)
-
-pub push_one : (n : ℕ) → n < 10 → length (decimal n) ≡ 1
-push_one n h = ap length (decimal_digit n h)
-
--- the last digit goes behind the others
-pub push_more : (text mid out : List ℕ) (n : ℕ) → 10 ≤ n → n < 2 ^ 64 → mid ≡ text ++ decimal (n / 10) → out ≡ mid ++ (48 + n % 10) ∷ [] → out ≡ text ++ decimal n
-push_more text mid out n h k e f = f ∙ ap (λ t. t ++ (48 + n % 10) ∷ []) e ∙ append_assoc text (decimal (n / 10)) ((48 + n % 10) ∷ []) ∙ ap (λ d. text ++ d) (sym (decimal_step n h k))
-
-pub push_last : (text out : List ℕ) (n : ℕ) → n < 10 → out ≡ text ++ (48 + n % 10) ∷ [] → out ≡ text ++ decimal n
-push_last text out n h f = let m : n % 10 ≡ n = omega arith in f ∙ ap (λ d. text ++ (48 + d) ∷ []) m ∙ ap (λ d. text ++ d) (sym (decimal_digit n h))
+use Rattle.std.proofs.lemmas.List.{flat_map_more, take_more}
+use Rattle.std.proofs.lemmas.Fmt.{length-decimal-le}
+use Rattle.page_writer.specs.Texts.{spaced}
 
 pub decimal_short : (n : ℕ) → n < 10 ^ 9 → length (decimal n) ≤ 9
 decimal_short n h = length-decimal-le 9 n (omega arith) h (omega arith)
@@ -34,14 +21,3 @@ small_at (x ∷ xs) a (suc i) = small_at xs a.1 i
 pub spaced_more : (start text mid out xs : List ℕ) (i : ℕ) → text ≡ start ++ flat_map spaced (take i xs) → mid ≡ text ++ 32 ∷ [] → out ≡ mid ++ decimal (get_or xs i 0) → i < length xs → out ≡ start ++ flat_map spaced (take (i + 1) xs)
 spaced_more start text mid out xs i e f g h =
     g ∙ ap (λ t. t ++ decimal (get_or xs i 0)) f ∙ append_assoc text (32 ∷ []) (decimal (get_or xs i 0)) ∙ ap (λ t. t ++ spaced (get_or xs i 0)) e ∙ flat_map_more spaced start (take i xs) (get_or xs i 0) ∙ ap (λ ys. start ++ flat_map spaced ys) (sym (take_more xs i 0 h))
-
--- the line is done
-pub line_done : (start first text out xs : List ℕ) (n i : ℕ) → first ≡ start ++ decimal n → text ≡ first ++ flat_map spaced (take i xs) → length xs ≤ i → out ≡ text ++ 10 ∷ [] → out ≡ start ++ number_line n xs
-line_done start first text out xs n i e f h g =
-    g ∙ ap (λ t. t ++ 10 ∷ []) (f ∙ ap (λ ys. first ++ flat_map spaced ys) (take_all i xs h) ∙ ap (λ t. t ++ flat_map spaced xs) e) ∙ simp append_assoc
-
--- the line of a refusal is done
-pub refusal_done : (t0 t1 t2 t3 t4 t5 t6 t7 word space number page bytes line feed : List ℕ)
-    → t0 ≡ [] → t1 ≡ t0 ++ word → t2 ≡ t1 ++ number → t3 ≡ t2 ++ space → t4 ≡ t3 ++ bytes → bytes ≡ page → t5 ≡ t4 ++ space → t6 ≡ t5 ++ line → t7 ≡ t6 ++ feed
-    → t7 ≡ word ++ (number ++ (space ++ (page ++ (space ++ (line ++ feed)))))
-refusal_done t0 t1 t2 t3 t4 t5 t6 t7 word space number page bytes line feed e0 e1 e2 e3 e4 e5 e6 e7 e8 = rw (e8, e7, e6, e4, e3, e2, e1, e0, e5) (simp append_assoc)

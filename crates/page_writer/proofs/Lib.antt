@@ -1,6 +1,5 @@
 pub mod Digits
 pub mod Places
-pub mod Values
 pub mod Back
 pub mod Trip
 pub mod PlanBack

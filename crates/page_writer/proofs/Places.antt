@@ -1,32 +1,39 @@
--- Lemmas on the pairs of a plan, one programme after another.
-use Rattle.std.proofs.Common.{◌≡◌, ℕ, ◌+◌, true, false, List, [], ◌∷◌, ◌++◌, length, sym, refl, ap, ◌∙◌, append-nil, add-one}
-use Rattle.std.specs.List.{flat_map}
-use Rattle.std.proofs.lemmas.List.{flat_map_more, length_push}
-use Rattle.std.proofs.lemmas.Bool.{cond-true, cond-false}
+-- Lemmas on the pairs of a plan's first programmes.
+use Rattle.std.proofs.Common.{◌≡◌, ℕ, zero, suc, ◌-◌, ◌≤◌, true, false, add-one, List, [], ◌∷◌, ◌++◌, length, get_or, take, refl, ap, ◌∙◌, ⊎_elim, append-nil, arith}
+use native.Mathlib.Nat.{sub-zero}
+use Rattle.std.specs.List.{count_by}
+use Rattle.std.proofs.lemmas.List.{get_or-take, length_push, length-take-le}
+use Rattle.std.proofs.lemmas.List.Sums.{count_by_more_yes, count_by_more_no}
+use Rattle.std.proofs.lemmas.Bool.{cases_Bool, cond-true, cond-false}
 use Rattle.refusal.specs.Counting.{within}
-use Rattle.refusal.specs.Tables.{at}
-use Rattle.page_writer.specs.PlanPage.{place_of, places, pair_line}
+use Rattle.page_writer.specs.PlanPage.{place_of, places}
 
 module _ (columns : ℕ) (t : List ℕ) where
-  places_more : (i : ℕ) → places columns t (i + 1) ≡ places columns t i ++ place_of columns t (i + 1)
-  places_more i = rw (add-one i) refl
+  -- a cut behind them does not touch them
+  same_places : (n m : ℕ) → n ≤ m → places columns (take m t) n ≡ places columns t n
+  same_places zero m h = refl
+  same_places (suc n) m h =
+      let e : get_or (take m t) n 0 ≡ get_or t n 0 = get_or-take m t n 0 h in
+      rw e (ap (λ ps. ps ++ place_of columns t (suc n)) (same_places n m (omega arith)))
 
-  pub place_yes : (i : ℕ) → within columns (at 0 t (i + 1)) ≡ true → places columns t (i + 1) ≡ places columns t i ++ (i + 1, at 0 t (i + 1)) ∷ []
-  place_yes i e = places_more i ∙ ap (λ ps. places columns t i ++ ps) (cond-true (within columns (at 0 t (i + 1))) _ _ e)
+  -- how many there are
+  count_places : (n : ℕ) → n ≤ length t → count_by (within columns) (take n t) ≡ length (places columns t n)
+  count_places zero h = refl
+  count_places (suc n) h =
+      ⊎_elim
+      (λ (e : within columns (get_or t n 0) ≡ true).
+      let c = rw (add-one n) at (count_by_more_yes (within columns) t n 0 h e) in
+      let q : places columns t (suc n) ≡ places columns t n ++ (suc n, get_or t n 0) ∷ [] = ap (λ ps. places columns t n ++ ps) (cond-true (within columns (get_or t n 0)) _ _ e) in
+      omega (arith, c, ap length q, length_push (places columns t n) (suc n, get_or t n 0), count_places n (omega arith)))
+      (λ (e : within columns (get_or t n 0) ≡ false).
+      let c = rw (add-one n) at (count_by_more_no (within columns) t n 0 h e) in
+      let q : places columns t (suc n) ≡ places columns t n = ap (λ ps. places columns t n ++ ps) (cond-false (within columns (get_or t n 0)) _ _ e) ∙ append-nil (places columns t n) in
+      omega (arith, c, ap length q, count_places n (omega arith)))
+      (cases_Bool (within columns (get_or t n 0)))
 
-  pub place_no : (i : ℕ) → within columns (at 0 t (i + 1)) ≡ false → places columns t (i + 1) ≡ places columns t i
-  place_no i e = places_more i ∙ ap (λ ps. places columns t i ++ ps) (cond-false (within columns (at 0 t (i + 1))) _ _ e) ∙ append-nil (places columns t i)
+  -- the same, as the code cuts the list
+  pub first_places : (n : ℕ) → n ≤ length t → places columns (take (n - 0) t) (length (take (n - 0) t)) ≡ places columns t n
+  first_places n h = rw (sub-zero n, length-take-le n t h) (same_places n n (omega arith))
 
-  pub count_yes : (i n : ℕ) → n ≡ length (places columns t i) → within columns (at 0 t (i + 1)) ≡ true → n + 1 ≡ length (places columns t (i + 1))
-  count_yes i n e h = ap (λ m. m + 1) e ∙ sym (ap length (place_yes i h) ∙ length_push (places columns t i) (i + 1, at 0 t (i + 1)))
-
-  pub count_no : (i n : ℕ) → n ≡ length (places columns t i) → within columns (at 0 t (i + 1)) ≡ false → n ≡ length (places columns t (i + 1))
-  count_no i n e h = e ∙ sym (ap length (place_no i h))
-
-  pub line_yes : (start text out : List ℕ) (i s : ℕ) → text ≡ start ++ flat_map pair_line (places columns t i) → s ≡ at 0 t (i + 1) → within columns s ≡ true → out ≡ text ++ pair_line (i + 1, s) → out ≡ start ++ flat_map pair_line (places columns t (i + 1))
-  line_yes start text out i s e q h f =
-      let w : within columns (at 0 t (i + 1)) ≡ true = ap (within columns) (sym q) ∙ h in
-      f ∙ ap (λ v. text ++ pair_line (i + 1, v)) q ∙ ap (λ v. v ++ pair_line (i + 1, at 0 t (i + 1))) e ∙ flat_map_more pair_line start (places columns t i) (i + 1, at 0 t (i + 1)) ∙ ap (λ ps. start ++ flat_map pair_line ps) (sym (place_yes i w))
-
-  pub line_no : (start text : List ℕ) (i s : ℕ) → text ≡ start ++ flat_map pair_line (places columns t i) → s ≡ at 0 t (i + 1) → within columns s ≡ false → text ≡ start ++ flat_map pair_line (places columns t (i + 1))
-  line_no start text i s e q h = e ∙ ap (λ ps. start ++ flat_map pair_line ps) (sym (place_no i (ap (within columns) (sym q) ∙ h)))
+  pub first_count : (n : ℕ) → n ≤ length t → count_by (within columns) (take (n - 0) t) ≡ length (places columns t n)
+  first_count n h = rw sub-zero (count_places n h)

@@ -1,7 +1,7 @@
 -- The page of a plan is read back as the plan.
 use Rattle.std.proofs.Common.{◌≡◌, ℕ, zero, suc, ◌*◌, ◌^◌, ◌<◌, ◌≤◌, Bool, true, false, ◌&&◌, ◌||◌, eqb, List, [], ◌∷◌, ◌++◌, length, Ok, sym, refl, ap, ◌∙◌, subst, ⊎_elim, append-nil, suc-mul, arith, length-append}
 use mathlib.Core.Path.{fun_ext}
-use Rattle.std.specs.List.{flat_map, AllByRecursion}
+use Rattle.std.specs.List.{AllByRecursion}
 use Rattle.std.proofs.lemmas.Bool.{cases_Bool, cond-true, cond-false, and_from, and_right, or_from, eqb-true, ne_eqb}
 use Rattle.std.proofs.lemmas.Bool.Decides.{nat_tests}
 use Rattle.refusal.specs.Counting.{within}
@@ -13,9 +13,8 @@ use Rattle.page_text.specs.Limits.{page_limit}
 use Rattle.pages.specs.PairPages.{read_pairs}
 use Rattle.pages.specs.PageLaws.{listed, Apart, PairsFit}
 use Rattle.pages.proofs.PairLaws.{pairs_law}
-use Rattle.page_writer.specs.Texts.{title, number_line}
-use Rattle.page_writer.specs.PlanPage.{plan_rows, plan_columns, place_of, places, pair_line, pairs_page, plan_page, plan_pairs}
-use Rattle.page_writer.proofs.Trip.{three_parts, Written, made}
+use Rattle.page_writer.specs.PlanPage.{plan_rows, plan_columns, place_of, places, plan_page, plan_pairs}
+use Rattle.page_writer.proofs.Trip.{Written, made}
 
 all_append : {X : Type 0} (P : X → Type 0) (xs ys : List X) → AllByRecursion P xs → AllByRecursion P ys → AllByRecursion P (xs ++ ys)
 all_append P [] ys f g = g
@@ -158,11 +157,3 @@ module _ (slots : ℕ) (t : List ℕ) where
       let few : length ps < 10 ^ 9 = omega (arith, places_rows columns t rows) in
       pairs_law page text rows columns ps (made 1 (λ (p : ℕ × ℕ). p.0) (λ (p : ℕ × ℕ). p.1 ∷ []) (omega arith) (λ p. refl) kind-of.Pairs rows (columns ∷ length ps ∷ []) ps text (omega arith) (omega arith, (few, tt)) (omega arith) small e h) fit
       ∙ ap (λ f. Ok (record { programmes = rows; slots = columns; allowed = f })) (fun_ext (λ i. fun_ext (λ s. listed_places columns t rows i s)))
-
--- the page as it is put together
-pub plan_text : (slots : ℕ) (t : List ℕ) (rows columns n : ℕ) (t0 t1 t2 t3 : List ℕ) → rows ≡ plan_rows t → columns ≡ plan_columns slots → n ≡ length (places columns t rows) → t0 ≡ [] → t1 ≡ t0 ++ title kind-of.Pairs → t2 ≡ t1 ++ number_line rows (columns ∷ n ∷ []) → t3 ≡ t2 ++ flat_map pair_line (places columns t rows) → t3 ≡ plan_page slots t
-plan_text slots t rows columns n t0 t1 t2 t3 r c k e f g h =
-    three_parts t0 t1 t2 t3 (title kind-of.Pairs) (number_line rows (columns ∷ n ∷ [])) (flat_map pair_line (places columns t rows)) e f g h
-    ∙ ap (λ m. title kind-of.Pairs ++ (number_line rows (columns ∷ m ∷ []) ++ flat_map pair_line (places columns t rows))) k
-    ∙ ap (λ m. pairs_page m columns (places columns t m)) r
-    ∙ ap (λ m. pairs_page (plan_rows t) m (places m t (plan_rows t))) c

@@ -1,7 +1,6 @@
 -- The page of a table is read back as the table.
-use Rattle.std.proofs.Common.{◌≡◌, ℕ, zero, suc, ◌-◌, ◌*◌, ◌/◌, ◌≤◌, min, List, [], ◌∷◌, ◌++◌, length, get_or, take, refl, ap, ◌∙◌, arith}
-use native.Mathlib.Nat.{sub-zero}
-use Rattle.std.specs.List.{flat_map, AllByRecursion}
+use Rattle.std.proofs.Common.{◌≡◌, ℕ, zero, suc, ◌*◌, ◌≤◌, min, List, [], ◌∷◌, length, get_or, take, refl, arith}
+use Rattle.std.specs.List.{AllByRecursion}
 use Rattle.std.proofs.lemmas.List.{length-take-le}
 use Rattle.refusal.specs.Limits.{side}
 use Rattle.page_text.specs.declared.line.PageKind.TheVariants as kind-of
@@ -10,9 +9,8 @@ use Rattle.pages.specs.declared.table_pages.Columns.{Columns}
 use Rattle.pages.specs.declared.table_pages.Columns.TheVariants.{One, Two}
 use Rattle.pages.specs.TablePages.{width}
 use Rattle.pages.proofs.TableLaws.{values_law}
-use Rattle.page_writer.specs.Texts.{title, number_line}
-use Rattle.page_writer.specs.TablePage.{table_rows, table_values, value_line, values_page, table_page, TableBack}
-use Rattle.page_writer.proofs.Trip.{three_parts, Written, made}
+use Rattle.page_writer.specs.TablePage.{table_rows, table_values, table_page, TableBack}
+use Rattle.page_writer.proofs.Trip.{Written, made}
 
 pub all_small : (xs : List ℕ) → ((i : ℕ) → get_or xs i 0 ≤ 65535) → AllByRecursion (λ v. v ≤ 65535) xs
 all_small [] f = tt
@@ -51,11 +49,3 @@ module _ (columns : Columns) (values : List ℕ) (a : AllByRecursion (λ v. v �
       values_law columns room page text rows vs
       (made 0 (λ (v : ℕ). v) (λ (v : ℕ). []) (omega arith) (λ v. refl) kind-of.Table rows (width columns ∷ []) vs text (omega arith) (omega (arith, width_small columns), tt) (omega arith) lines e h)
       (record { few_rows = omega arith; all = long; fit = omega arith; small = small })
-
--- the page as it is put together
-pub table_text : (columns : Columns) (values : List ℕ) (rows w : ℕ) (t0 t1 t2 t3 : List ℕ) → w ≡ width columns → rows ≡ min (length values / w) (2 * side) → t0 ≡ [] → t1 ≡ t0 ++ title kind-of.Table → t2 ≡ t1 ++ number_line rows (w ∷ []) → t3 ≡ t2 ++ flat_map value_line (take (rows * w - 0) values) → t3 ≡ table_page columns values
-table_text columns values rows w t0 t1 t2 t3 d r e f g h =
-    three_parts t0 t1 t2 t3 (title kind-of.Table) (number_line rows (w ∷ [])) (flat_map value_line (take (rows * w - 0) values)) e f g h
-    ∙ ap (λ n. title kind-of.Table ++ (number_line rows (w ∷ []) ++ flat_map value_line (take n values))) (sub-zero (rows * w))
-    ∙ ap (λ n. values_page n w (take (n * w) values)) r
-    ∙ ap (λ n. values_page (min (length values / n) (2 * side)) n (take (min (length values / n) (2 * side) * n) values)) d

@@ -1,5 +1,5 @@
 -- A written page is made as the format says: its header, its size line, and a line for each entry.
-use Rattle.std.proofs.Common.{◌≡◌, ℕ, suc, ◌^◌, ◌<◌, ◌≤◌, true, List, [], ◌∷◌, ◌++◌, map, length, codes, sym, refl, ap, ◌∙◌, append_assoc, arith}
+use Rattle.std.proofs.Common.{◌≡◌, ℕ, suc, ◌^◌, ◌<◌, ◌≤◌, true, List, [], ◌∷◌, ◌++◌, map, length, codes, sym, refl, ap, ◌∙◌, arith}
 use Rattle.std.specs.List.{flat_map, AllByRecursion}
 use Rattle.page_text.specs.declared.line.PageKind.{PageKind}
 use Rattle.page_text.specs.declared.line.PageKind.TheVariants.{Pairs, Table}
@@ -9,10 +9,6 @@ use Rattle.page_text.specs.Lines.{lines, header}
 use Rattle.pages.specs.PageLaws.{Short, Says, none, entry, MadeOf}
 use Rattle.page_writer.specs.Texts.{title, number_text, number_line}
 use Rattle.page_writer.proofs.Back.{free_clear, lines_cut, Small, numbers_line, kind_line, short_line, lines_line}
-
--- a text put together from three parts
-pub three_parts : (t0 t1 t2 t3 a b c : List ℕ) → t0 ≡ [] → t1 ≡ t0 ++ a → t2 ≡ t1 ++ b → t3 ≡ t2 ++ c → t3 ≡ a ++ (b ++ c)
-three_parts t0 t1 t2 t3 a b c e f g h = h ∙ ap (λ t. t ++ c) (g ∙ ap (λ t. t ++ b) (f ∙ ap (λ t. t ++ a) e)) ∙ append_assoc a b c
 
 -- the header line, without its line feed
 abbrev top : PageKind → List ℕ

@@ -22,3 +22,8 @@ verdict_line accepted = cond accepted (codes "accepted\n") (codes "rejected\n")
 abbrev pub answer_line : Result Bool Declined → List ℕ
 answer_line (Ok accepted) = verdict_line accepted
 answer_line (Err declined) = refusal_line declined
+
+-- The same, with the line of a refusal as the error.
+abbrev pub answer_lines : Result Bool Declined → Result (List ℕ) (List ℕ)
+answer_lines (Ok accepted) = Ok (verdict_line accepted)
+answer_lines (Err declined) = Err (refusal_line declined)

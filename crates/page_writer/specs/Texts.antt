@@ -1,5 +1,5 @@
 -- The text of a page, and how numbers are written in it.
-use Rattle.std.specs.Prelude.{ℕ, List, [], ◌∷◌, ◌++◌, vec_items, codes, decimal}
+use Rattle.std.specs.Prelude.{ℕ, List, [], ◌∷◌, ◌++◌, Ok, Err, vec_items, codes, decimal, Result}
 use Rattle.std.specs.List.{flat_map}
 use Rattle.page_text.specs.declared.line.PageKind.{PageKind}
 use Rattle.page_text.specs.declared.line.PageKind.TheVariants.{Pairs, Table}
@@ -8,6 +8,11 @@ use Rattle.page_writer.specs.declared.PageText.{PageText}
 -- The bytes of a page's text.
 abbrev pub text_of : PageText → List ℕ
 text_of t = vec_items t.bytes
+
+-- The bytes of a text that was asked for, or of the refusal in its place.
+abbrev pub texts_of : Result PageText PageText → Result (List ℕ) (List ℕ)
+texts_of (Ok t) = Ok (text_of t)
+texts_of (Err t) = Err (text_of t)
 
 -- A number after a space.
 abbrev pub spaced : ℕ → List ℕ

@@ -1,8 +1,9 @@
 //! The line that a program writes in place of a page: a verdict, or a refusal.
 ghost use Rattle.std.specs.Prelude.{◌≡◌, ◌≤◌, [], length};
 ghost use Rattle.refusal.specs.Refusals.{number_of};
-ghost use Rattle.page_writer.specs.Texts.{text_of};
-ghost use Rattle.page_writer.specs.AnswerLines.{line_at, refusal_line, verdict_line, answer_line};
+ghost use Rattle.page_writer.specs.declared.answer_line.Declined.TheVariants.{Page, Week};
+ghost use Rattle.page_writer.specs.Texts.{text_of, texts_of};
+ghost use Rattle.page_writer.specs.AnswerLines.{line_at, refusal_line, verdict_line, answer_line, answer_lines};
 
 use crate::PageText;
 use page_text::fault::Fault;
@@ -17,8 +18,25 @@ pub enum Declined {
     Week(Refusal),
 }
 
+impl From<Fault> for Declined {
+    ghost from_gives = { λ fault declined. declined ≡ Page fault };
+
+    fn from(fault: Fault) -> Declined {
+        Self::Page(fault)
+    }
+}
+
+impl From<Refusal> for Declined {
+    ghost from_gives = { λ refusal declined. declined ≡ Week refusal };
+
+    fn from(refusal: Refusal) -> Declined {
+        Self::Week(refusal)
+    }
+}
+
 impl PageText {
     /// Writes the line of a refusal that belongs to that page and line, into an empty text.
+    #[tactic(auto, using(crate::proofs::Digits::decimal_fits))]
     fn put_refusal(&mut self, refusal: Refusal, page: &str, line: usize)
         requires empty { text_of self.old ≡ [] }
         requires short { length page.now ≤ 100 }
@@ -66,5 +84,21 @@ impl PageText {
             Ok(accepted) => self.write_verdict(accepted),
             Err(declined) => self.write_refusal(declined),
         }
+    }
+
+    /// The text with the line of a refusal in place of what it held.
+    pub fn refusal(mut self, declined: Declined) -> PageText
+        ensures { text_of result ≡ refusal_line declined }
+    {
+        self.write_refusal(declined);
+        self
+    }
+
+    /// The text with the line of a verdict in place of what it held, or with the line of the refusal.
+    pub fn answer(mut self, judged: Result<bool, Declined>) -> Result<PageText, PageText>
+        ensures { texts_of result ≡ answer_lines judged }
+    {
+        self.write_answer(judged);
+        if judged.is_ok() { Ok(self) } else { Err(self) }
     }
 }

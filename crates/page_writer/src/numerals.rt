@@ -5,6 +5,7 @@ ghost use Rattle.page_text.specs.Limits.{page_limit};
 ghost use Rattle.page_writer.specs.Texts.{text_of, number_line};
 
 use crate::PageText;
+use itoa::Buffer;
 
 impl PageText {
     /// Adds a number's decimal digits.
@@ -13,13 +14,12 @@ impl PageText {
         ensures text { text_of self.new ≡ text_of self.old ++ decimal number }
         ensures longer { length (text_of self.new) ≡ length (text_of self.old) + length (decimal number) }
     {
-        if number >= 10 {
-            self.push_number(number / 10);
-        }
-        self.push(&[b'0' + (number % 10) as u8]);
+        let mut digits = Buffer::new();
+        self.push(digits.format(number).as_bytes());
     }
 
     /// Adds a line of numbers.
+    #[tactic(auto, using(crate::proofs::Digits::decimal_short, crate::proofs::Digits::small_at, crate::proofs::Digits::spaced_more))]
     pub(crate) fn push_line(&mut self, first: usize, rest: &[usize])
         requires room { length (text_of self.old) + 10 * (1 + length rest.now) ≤ page_limit }
         requires first { first < 10 ^ 9 }

@@ -15,10 +15,8 @@ impl PageText {
         ensures answer { make_refusal_of result ≡ None }
         ensures text { IfOk result (λ t. text_of t ≡ []) }
     {
-        match Vec::with_capacity(heap, PAGE_LIMIT) {
-            Ok(bytes) => Ok(PageText { bytes }),
-            Err(_) => Err(MakeError::NoMemory),
-        }
+        let bytes = Vec::with_capacity(heap, PAGE_LIMIT)?;
+        Ok(PageText { bytes })
     }
 
     /// The bytes of the page.
