@@ -11,6 +11,7 @@ use std::fmt;
 
 /// Shows what a call comes to as the line that is told. A page is told by its name, and its text is for
 /// the program to write.
+#[derive(Clone, Copy)]
 pub struct AnswerLine<'a>(pub &'a Served);
 
 /// Writes each entry after a space.
