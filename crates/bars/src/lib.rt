@@ -31,8 +31,10 @@ impl<S: PairSource + Drop> Bars<S> {
         ensures below { IfOk result (λ bars. bars.below ≡ below) }
         ensures pairs { IfOk result (λ bars. barred_pairs (S.PairSource.pairs below) bars.barred ≡ cut (S.PairSource.pairs below)) }
     {
-        let barred = Grid::new(heap, SIDE, SIDE)?;
-        Ok(Bars { below, barred })
+        Ok(Bars {
+            below,
+            barred: Grid::new(heap, SIDE, SIDE)?,
+        })
     }
 }
 

@@ -8,12 +8,13 @@ use Rattle.matching.specs.Lists.{certificate_of}
 use Rattle.plan.specs.Held.{everyone}
 use Rattle.plan.specs.Parts.{parts_fit, board_of}
 use Rattle.plan.specs.Filling.{first_twice}
-use Rattle.refusal.specs.Refusals.{number_of as number-of-refusal}
+use Rattle.refusal.specs.Refusals.{number_of as refusal_number}
 use Rattle.priority_pages.specs.PriorityPages.{number_of}
-use Rattle.commands.specs.declared.answer.Declined.{Declined}
-use Rattle.commands.specs.declared.answer.Declined.TheVariants.{Page, Week}
-use Rattle.commands.specs.declared.answer.Answer.{Answer}
-use Rattle.commands.specs.Answers.{answer_line}
+use Rattle.page_writer.specs.declared.answer_line.Declined.{Declined}
+use Rattle.page_writer.specs.declared.answer_line.Declined.TheVariants.{Page, Week}
+use Rattle.page_writer.specs.declared.PageText.{PageText}
+use Rattle.page_writer.specs.Texts.{texts_of}
+use Rattle.page_writer.specs.AnswerLines.{answer_lines}
 use Rattle.commands.specs.Pages.{Filed, read_filed}
 
 -- The number kind: the smaller number is higher.
@@ -55,14 +56,13 @@ Fits filed xs ys b = pages_fit filed.week.pairs xs ys filed.plan filed.entries �
 abbrev pub Judged : List ℕ → List ℕ → List ℕ → List ℕ → List ℕ → Result Bool Declined → Type 0
 Judged pairs programmes slots plan proof (Err (Page fault)) = read_filed pairs programmes slots plan proof ≡ Err fault
 Judged pairs programmes slots plan proof (Err (Week refusal)) =
-    (filed : Filed) × (xs : List Number) × (ys : List Number) × Read pairs programmes slots plan proof filed xs ys × Fits filed xs ys false × (number-of-refusal refusal ≡ 12)
+    (filed : Filed) × (xs : List Number) × (ys : List Number) × Read pairs programmes slots plan proof filed xs ys × Fits filed xs ys false × (refusal_number refusal ≡ 12)
 Judged pairs programmes slots plan proof (Ok accepted) =
     (filed : Filed) × (xs : List Number) × (ys : List Number) × Read pairs programmes slots plan proof filed xs ys × Fits filed xs ys true
     × (accepted ≡ accepts reaches_number filed.week.pairs xs ys filed.plan filed.entries)
 
--- What weekjudge writes: the line of the verdict on the five pages, and whether it is a refusal.
-pub record Answered (b1 b2 b3 b4 b5 : List ℕ) (answer : Answer) : Type 0 where
+-- What weekjudge writes: the line of the verdict on the five pages, or else that of the refusal.
+pub record Answered (b1 b2 b3 b4 b5 : List ℕ) (answer : Result PageText PageText) : Type 0 where
   pub judged : Result Bool Declined
   pub verdict : Judged b1 b2 b3 b4 b5 judged
-  pub text : string_bytes answer.text ≡ answer_line judged
-  pub refused : answer.refused ≡ is_err judged
+  pub told : texts_of answer ≡ answer_lines judged

@@ -17,9 +17,7 @@ use std::alloc::Global;
 /// The bytes of a filed week's five pages.
 #[derive(Clone, Copy)]
 pub struct FiledBytes<'a> {
-    pub pairs: &'a [u8],
-    pub programmes: &'a [u8],
-    pub slots: &'a [u8],
+    pub week: WeekBytes<'a>,
     pub plan: &'a [u8],
     pub proof: &'a [u8],
 }
@@ -46,34 +44,24 @@ impl FiledRoom {
     pub fn new(heap: Global) -> Result<FiledRoom, MakeError>
         ensures answer { make_refusal_of result ≡ None }
     {
-        let week = WeekRoom::new(heap)?;
-        let plan = Grid::new(heap, 0, 0)?;
-        match vec![in heap; 0u16; 2 * SIDE] {
-            Ok(entries) => Ok(FiledRoom {
-                week,
-                plan,
-                entries,
-            }),
-            Err(_) => Err(MakeError::NoMemory),
-        }
+        Ok(FiledRoom {
+            week: WeekRoom::new(heap)?,
+            plan: Grid::new(heap, 0, 0)?,
+            entries: vec![in heap; 0u16; 2 * SIDE]?,
+        })
     }
 }
 
 /// Reads the pages in their order; the first fault is told.
 pub fn read_filed(room: FiledRoom, bytes: &FiledBytes) -> Result<FiledRead, Fault>
-    ensures { given filed_of result ≡ read_filed bytes.now.pairs.now bytes.now.programmes.now bytes.now.slots.now bytes.now.plan.now bytes.now.proof.now }
+    ensures { given filed_of result ≡ read_filed bytes.now.week.pairs.now bytes.now.week.programmes.now bytes.now.week.slots.now bytes.now.plan.now bytes.now.proof.now }
 {
     let FiledRoom {
         week,
         mut plan,
         mut entries,
     } = room;
-    let pages = WeekBytes {
-        pairs: bytes.pairs,
-        programmes: bytes.programmes,
-        slots: bytes.slots,
-    };
-    let week = read_week(week, &pages)?;
+    let week = read_week(week, &bytes.week)?;
     read_pairs(&mut plan, Page::Plan, bytes.plan)?;
     let rows = read_table(&mut entries, Columns::One, Page::Proof, bytes.proof)?;
     entries.truncate(rows);

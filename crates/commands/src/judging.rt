@@ -11,40 +11,40 @@ ghost use Rattle.plan.specs.Parts.{ranked, board_of};
 ghost use Rattle.judge.specs.Handed.{judge_refusals};
 ghost use Rattle.commands.specs.Judging.{pages_fit, verdict_refusals, accepts, reaches_number, Judged, Answered};
 
-use crate::answer::{Answer, Declined, answer_text};
 use crate::filed_pages::{FiledBytes, FiledRead, FiledRoom, read_filed};
 use crate::week_pages::WeekRead;
 use grid::Grid;
 use judge::judge;
+use page_writer::PageText;
+use page_writer::answer_line::Declined;
 use plan::Plan;
-use plan::questions::parts_fit;
+use plan::parts::Parts;
 use priority::Priority;
 use priority::ranking::Ranking;
 use refusal::{MakeError, Refusal};
 use source::PairSource;
-use std::alloc::{AllocError, Global};
+use std::alloc::Global;
 
 /// Whether the counts of pairs, rankings, plan page and certificate fit together.
 fn pages_fit<P: Priority + Copy>(
-    source: &Grid,
-    programmes: &Ranking<P>,
-    slots: &Ranking<P>,
+    parts: &Parts<Grid, P>,
     planned: &Grid,
     certificate: &[u16],
 ) -> bool
-    ensures { result ≡ pages_fit (grid_pairs source.now) (ranked programmes.now) (ranked slots.now) (grid_pairs planned.now) certificate.now }
+    ensures { result ≡ pages_fit (grid_pairs parts.now.source.now) (ranked parts.now.programmes.now) (ranked parts.now.slots.now) (grid_pairs planned.now) certificate.now }
 {
-    parts_fit(source, programmes, slots)
-        && planned.programmes() == source.programmes()
-        && planned.slots() == source.slots()
-        && certificate.len() == source.programmes() as usize + source.slots() as usize
+    let pairs = parts.source;
+    parts.fit()
+        && planned.programmes() == pairs.programmes()
+        && planned.slots() == pairs.slots()
+        && certificate.len() == pairs.programmes() as usize + pairs.slots() as usize
 }
 
 /// Whether the pairs of the plan page are a plan that passes with the certificate. Refuses 12 where
 /// the counts of pairs, rankings, plan and certificate do not fit together. Pairs that use a
 /// programme or a slot twice are no plan, and do not pass.
 pub fn verdict(
-    plan: Plan,
+    mut plan: Plan,
     week: WeekRead,
     planned: &Grid,
     certificate: &[u16],
@@ -52,7 +52,6 @@ pub fn verdict(
     ensures answer { refusal_of result ≡ first_refusal (verdict_refusals (grid_pairs week.pairs) week.programmes.items week.slots.items (grid_pairs planned.now) certificate.now) }
     ensures told { IfOk result (λ accepted. accepted ≡ accepts reaches_number (grid_pairs week.pairs) week.programmes.items week.slots.items (grid_pairs planned.now) certificate.now) }
 {
-    let mut plan = plan;
     let WeekRead {
         pairs,
         mut programmes,
@@ -60,68 +59,66 @@ pub fn verdict(
     } = week;
     let programmes = Ranking::new(&mut programmes);
     let slots = Ranking::new(&mut slots);
-    if !pages_fit(&pairs, &programmes, &slots, planned, certificate) {
+    let parts = Parts {
+        source: &pairs,
+        programmes: &programmes,
+        slots: &slots,
+    };
+    if !pages_fit(&parts, planned, certificate) {
         return Err(Refusal::Mismatch);
     }
     if plan.fill(planned).is_err() {
         return Ok(false);
     }
-    judge(&plan, &pairs, &programmes, &slots, certificate)
+    judge(&plan, &parts, certificate)
 }
 
-/// The room that judging a filed week takes, made before its pages are read.
+/// The room that judging a filed week takes, made before its pages are read: for them, for the plan, and
+/// for the text that tells the verdict.
 #[derive(Drop)]
 pub struct JudgeRoom {
     filed: FiledRoom,
     plan: Plan,
+    text: PageText,
 }
 
 impl JudgeRoom {
-    /// Room for the largest filed week. Refuses nothing; there may be no memory.
+    /// Room for one verdict. Refuses nothing; there may be no memory.
     pub fn new(heap: Global) -> Result<JudgeRoom, MakeError>
         ensures answer { make_refusal_of result ≡ None }
     {
-        let filed = FiledRoom::new(heap)?;
-        match Plan::new(heap) {
-            Ok(plan) => Ok(JudgeRoom { filed, plan }),
-            Err(_) => Err(MakeError::NoMemory),
-        }
+        Ok(JudgeRoom {
+            filed: FiledRoom::new(heap)?,
+            plan: Plan::new(heap)?,
+            text: PageText::new(heap)?,
+        })
     }
 }
 
-/// Reads the five pages and judges the plan: whether it is accepted, or why the pages are refused.
-pub fn judge_pages(room: JudgeRoom, bytes: &FiledBytes) -> Result<bool, Declined>
-    ensures { Judged bytes.now.pairs.now bytes.now.programmes.now bytes.now.slots.now bytes.now.plan.now bytes.now.proof.now result }
+/// The verdict on the five pages, through the rooms.
+fn verdict_on_pages(filed: FiledRoom, plan: Plan, bytes: &FiledBytes) -> Result<bool, Declined>
+    ensures { Judged bytes.now.week.pairs.now bytes.now.week.programmes.now bytes.now.week.slots.now bytes.now.plan.now bytes.now.proof.now result }
 {
-    let JudgeRoom { filed, plan } = room;
     let FiledRead {
         week,
         plan: planned,
         entries,
-    } = match read_filed(filed, bytes) {
-        Ok(read) => read,
-        Err(fault) => return Err(Declined::Page(fault)),
-    };
-    match verdict(plan, week, &planned, &entries) {
-        Ok(accepted) => Ok(accepted),
-        Err(refusal) => Err(Declined::Week(refusal)),
-    }
+    } = read_filed(filed, bytes)?;
+    Ok(verdict(plan, week, &planned, &entries)?)
 }
 
-/// What `weekjudge` writes for the five pages: the verdict on them, or the line of the refusal.
-pub fn judge_answer(heap: Global, room: JudgeRoom, bytes: &FiledBytes) -> Result<Answer, AllocError>
-    ensures { IfOk result (λ answer. Answered bytes.now.pairs.now bytes.now.programmes.now bytes.now.slots.now bytes.now.plan.now bytes.now.proof.now answer) }
+/// The verdict on the five pages: whether the plan page is a plan that passes with the certificate page,
+/// or why they are refused.
+pub fn judge_pages(room: JudgeRoom, bytes: &FiledBytes) -> Result<bool, Declined>
+    ensures { Judged bytes.now.week.pairs.now bytes.now.week.programmes.now bytes.now.week.slots.now bytes.now.plan.now bytes.now.proof.now result }
 {
-    let judged = judge_pages(room, bytes);
-    let text = answer_text(heap, judged)?;
-    let Ok(_) = judged else {
-        return Ok(Answer {
-            text,
-            refused: true,
-        });
-    };
-    Ok(Answer {
-        text,
-        refused: false,
-    })
+    verdict_on_pages(room.filed, room.plan, bytes)
+}
+
+/// What weekjudge writes: the line of the verdict, or else that of the refusal. It wants no memory.
+pub fn judge_answer(room: JudgeRoom, bytes: &FiledBytes) -> Result<PageText, PageText>
+    ensures { Answered bytes.now.week.pairs.now bytes.now.week.programmes.now bytes.now.week.slots.now bytes.now.plan.now bytes.now.proof.now result }
+{
+    let JudgeRoom { filed, plan, text } = room;
+    text.answer(verdict_on_pages(filed, plan, bytes))
 }

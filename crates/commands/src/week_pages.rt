@@ -9,7 +9,7 @@ use grid::Grid;
 use page_text::fault::{Fault, Page};
 use pages::pair_pages::read_pairs;
 use priority::number::Number;
-use priority_pages::numbers::read_numbers;
+use priority_pages::reading::read_priorities;
 use priority_pages::room::PriorityRoom;
 use refusal::MakeError;
 use refusal::limits::SIDE;
@@ -46,18 +46,12 @@ impl WeekRoom {
     pub fn new(heap: Global) -> Result<WeekRoom, MakeError>
         ensures answer { make_refusal_of result ≡ None }
     {
-        let pairs = Grid::new(heap, 0, 0)?;
-        let programmes = PriorityRoom::new(heap)?;
-        let slots = PriorityRoom::new(heap)?;
-        match vec![in heap; 0u16; 2 * SIDE] {
-            Ok(values) => Ok(WeekRoom {
-                pairs,
-                programmes,
-                slots,
-                values,
-            }),
-            Err(_) => Err(MakeError::NoMemory),
-        }
+        Ok(WeekRoom {
+            pairs: Grid::new(heap, 0, 0)?,
+            programmes: PriorityRoom::new(heap)?,
+            slots: PriorityRoom::new(heap)?,
+            values: vec![in heap; 0u16; 2 * SIDE]?,
+        })
     }
 }
 
@@ -72,8 +66,8 @@ pub fn read_week(room: WeekRoom, bytes: &WeekBytes) -> Result<WeekRead, Fault>
         mut values,
     } = room;
     read_pairs(&mut pairs, Page::Pairs, bytes.pairs)?;
-    let programmes = read_numbers(programmes, &mut values, Page::Programmes, bytes.programmes)?;
-    let slots = read_numbers(slots, &mut values, Page::Slots, bytes.slots)?;
+    let programmes = read_priorities(programmes, &mut values, Page::Programmes, bytes.programmes)?;
+    let slots = read_priorities(slots, &mut values, Page::Slots, bytes.slots)?;
     Ok(WeekRead {
         pairs,
         programmes,

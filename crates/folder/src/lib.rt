@@ -4,9 +4,9 @@
 ghost use Rattle.std.specs.Prelude.{◌≡◌, true, [], is_err, MatchResult};
 
 use anyhow::anyhow;
-use commands::answer::Written;
 use commands::week_pages::WeekBytes;
 use page_text::fault::Page;
+use page_writer::PageText;
 use std::alloc::Global;
 use std::io::Write;
 use std::{env, fs, io};
@@ -15,10 +15,7 @@ use std::{env, fs, io};
 fn page_or_empty(heap: Global, read: io::Result<Vec<u8>>) -> Vec<u8>
     ensures { MatchResult read (λ bytes. result ≡ bytes) (λ _. result.items ≡ []) }
 {
-    match read {
-        Ok(bytes) => bytes,
-        Err(_) => Vec::new(heap),
-    }
+    read.unwrap_or_else(|_| Vec::new(heap))
 }
 
 /// The bytes of the page in the folder; a missing file is an empty page.
@@ -48,13 +45,10 @@ pub struct WeekFiles {
 impl WeekFiles {
     /// Reads the pages in the folder.
     pub fn read(rt: &HostRuntime, folder: &str) -> anyhow::Result<WeekFiles> {
-        let pairs = read_page(rt, folder, Page::Pairs)?;
-        let programmes = read_page(rt, folder, Page::Programmes)?;
-        let slots = read_page(rt, folder, Page::Slots)?;
         Ok(WeekFiles {
-            pairs,
-            programmes,
-            slots,
+            pairs: read_page(rt, folder, Page::Pairs)?,
+            programmes: read_page(rt, folder, Page::Programmes)?,
+            slots: read_page(rt, folder, Page::Slots)?,
         })
     }
 
@@ -72,12 +66,13 @@ impl WeekFiles {
     }
 }
 
-/// Writes a program's text. The program ends with status 1 where it is a refusal.
-pub fn write_text(rt: &HostRuntime, written: &Written) -> anyhow::Result<()>
-    ensures { written.now.refused ≡ true → is_err result ≡ true }
+/// Writes a program's text. The program ends with status 1 where it is the line of a refusal.
+pub fn write_answer(rt: &HostRuntime, answer: &Result<PageText, PageText>) -> anyhow::Result<()>
+    ensures { is_err answer.now ≡ true → is_err result ≡ true }
 {
-    rt.stdout().write_all(written.text.as_bytes())?;
-    if written.refused {
+    let (Ok(text) | Err(text)) = answer;
+    rt.stdout().write_all(text.as_bytes())?;
+    if answer.is_err() {
         return Err(anyhow!("refused"));
     }
     Ok(())

@@ -34,12 +34,12 @@ pub record Handed (P : Type 0) : Type 0 where
 abbrev pub shown : {S P : Type 0} → (S → Pairs) → View S P → Handed P
 shown pairs view = record {
   pairs = pairs view.source.now;
-  programmes = view.programmes.now;
-  slots = view.slots.now;
+  programmes = view.programmes.priorities.now;
+  slots = view.slots.priorities.now;
   plan = record {
-    slot_of = view.slot_of.now;
-    programme_in = view.programme_in.now;
-    attendance = record { programmes = view.programmes_present.now; slots = view.slots_present.now };
+    slot_of = view.programmes.places.now;
+    programme_in = view.slots.places.now;
+    attendance = record { programmes = view.programmes.present.now; slots = view.slots.present.now };
   };
 }
 

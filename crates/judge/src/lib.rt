@@ -18,7 +18,7 @@ ghost use Rattle.judge.specs.Tests.{verdict};
 mod rules;
 mod view;
 
-use crate::view::View;
+use crate::view::{Side, View};
 use plan::Plan;
 use plan::parts::Parts;
 use priority::Priority;
@@ -28,7 +28,7 @@ use source::turned::Turned;
 
 /// Whether what is in view passes with these names: the plan is lawful, the programmes keep the rules,
 /// and so do the slots.
-fn is_passed<S: PairSource, P: Priority>(
+fn is_passed<S: PairSource, P: Priority + Copy>(
     view: &View<S, P>,
     programme_names: &[u16],
     slot_names: &[u16],
@@ -40,10 +40,6 @@ fn is_passed<S: PairSource, P: Priority>(
         source: &Turned(view.source),
         programmes: view.slots,
         slots: view.programmes,
-        programmes_present: view.slots_present,
-        slots_present: view.programmes_present,
-        slot_of: view.programme_in,
-        programme_in: view.slot_of,
     };
     view.is_lawful() && view.keeps_rules(programme_names) && turned.keeps_rules(slot_names)
 }
@@ -77,12 +73,16 @@ pub fn judge<S: PairSource, P: Priority + Copy>(
     }
     let view = View {
         source: parts.source,
-        programmes: parts.programmes.as_slice(),
-        slots: parts.slots.as_slice(),
-        programmes_present: plan.programmes_present(),
-        slots_present: plan.slots_present(),
-        slot_of: plan.slot_of_table(),
-        programme_in: plan.programme_in_table(),
+        programmes: Side {
+            priorities: parts.programmes.as_slice(),
+            places: plan.slot_of_table(),
+            present: plan.programmes_present(),
+        },
+        slots: Side {
+            priorities: parts.slots.as_slice(),
+            places: plan.programme_in_table(),
+            present: plan.slots_present(),
+        },
     };
     let (programme_names, slot_names) = certificate.split_at(parts.programmes.len());
     Ok(is_passed(&view, programme_names, slot_names))

@@ -7,41 +7,44 @@ ghost use Rattle.matching.specs.Lists.{plan_of};
 ghost use Rattle.judge.specs.Handed.{shown, Fit, board_in};
 ghost use Rattle.judge.specs.Tests.{left_out, well_named, blocked, stands};
 
-use crate::view::View;
+use crate::view::{Side, View};
 use priority::Priority;
 use priority::places::reaches;
 use refusal::limits::Num;
 use refusal::tables::entry;
 use source::{PairSource, allows};
 
-impl<'a, S, P: Priority> View<'a, S, P> {
-    /// Whether the programme is present and has no slot.
+impl<'a, P: Priority> Side<'a, P> {
+    /// Whether the member is present and has no place.
     fn is_left_out(&self, number: usize) -> bool
-        ensures { result ≡ left_out self.now.programmes_present.now self.now.slot_of.now number }
+        ensures { result ≡ left_out self.now.present.now self.now.places.now number }
     {
-        entry(false, self.programmes_present, number) && entry(0, self.slot_of, number) == 0
+        entry(false, self.present, number) && entry(0, self.places, number) == 0
     }
 
     /// Rules 1 and 2: one that is left out names itself, and whoever names one is present and at least
     /// as high as that one, which is left out.
     fn names_well(&self, names: &[u16], number: usize) -> bool
-        ensures { result ≡ well_named P.Priority.reaches self.now.programmes.now self.now.programmes_present.now self.now.slot_of.now names.now number }
+        ensures { result ≡ well_named P.Priority.reaches self.now.priorities.now self.now.present.now self.now.places.now names.now number }
     {
         let name = entry(0, names, number) as usize;
         (!self.is_left_out(number) || name == number)
             && (name == 0
-                || (entry(false, self.programmes_present, number)
+                || (entry(false, self.present, number)
                     && self.is_left_out(name)
-                    && reaches(self.programmes, number, name)))
+                    && reaches(self.priorities, number, name)))
     }
+}
 
+impl<'a, S, P: Priority> View<'a, S, P> {
     /// Rule 3 at one slot: if it is present, it holds one whose name is at least as high as `name`.
     fn is_blocked(&self, names: &[u16], name: usize, slot: usize) -> bool
-        ensures { result ≡ blocked P.Priority.reaches self.now.programmes.now self.now.slots_present.now self.now.programme_in.now names.now name slot }
+        ensures { result ≡ blocked P.Priority.reaches self.now.programmes.priorities.now self.now.slots.present.now self.now.slots.places.now names.now name slot }
     {
-        let holder = entry(0, self.programme_in, slot) as usize;
-        !entry(false, self.slots_present, slot)
-            || reaches(self.programmes, entry(0, names, holder) as usize, name)
+        let holder = entry(0, self.slots.places, slot) as usize;
+        let holder_name = entry(0, names, holder) as usize;
+        !entry(false, self.slots.present, slot)
+            || reaches(self.programmes.priorities, holder_name, name)
     }
 }
 
@@ -50,10 +53,10 @@ impl<'a, S: PairSource, P> View<'a, S, P> {
     fn may_stand(&self, programme: Num) -> bool
         ensures { result ≡ stands (shown S.PairSource.pairs self.now) programme }
     {
-        let slot = entry(0, self.slot_of, programme as usize);
+        let slot = entry(0, self.programmes.places, programme as usize);
         slot == 0
-            || (entry(false, self.programmes_present, programme as usize)
-                && entry(false, self.slots_present, slot as usize)
+            || (entry(false, self.programmes.present, programme as usize)
+                && entry(false, self.slots.present, slot as usize)
                 && allows(self.source, programme, slot))
     }
 
@@ -73,7 +76,7 @@ impl<'a, S: PairSource, P: Priority> View<'a, S, P> {
     {
         let mut passed = true;
         'rules: for programme in 1..=self.source.programmes() {
-            if !self.names_well(names, programme as usize) {
+            if !self.programmes.names_well(names, programme as usize) {
                 passed = false;
                 break 'rules;
             }

@@ -1,14 +1,18 @@
 //! What the judge reads.
 use refusal::limits::Num;
 
-/// The source, the priorities, who is present and the plan's two tables, as they were lent.
+/// One side as it was lent: the priority of each member, its place on the other side, and who is present.
+#[derive(Clone, Copy)]
+pub(crate) struct Side<'a, P> {
+    pub(crate) priorities: &'a [P],
+    pub(crate) places: &'a [Num],
+    pub(crate) present: &'a [bool],
+}
+
+/// The source and both sides.
 #[derive(Clone, Copy)]
 pub(crate) struct View<'a, S, P> {
     pub(crate) source: &'a S,
-    pub(crate) programmes: &'a [P],
-    pub(crate) slots: &'a [P],
-    pub(crate) programmes_present: &'a [bool],
-    pub(crate) slots_present: &'a [bool],
-    pub(crate) slot_of: &'a [Num],
-    pub(crate) programme_in: &'a [Num],
+    pub(crate) programmes: Side<'a, P>,
+    pub(crate) slots: Side<'a, P>,
 }

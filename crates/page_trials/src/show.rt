@@ -3,6 +3,9 @@ use grid::Grid;
 use page_text::fault::{Fault, Page};
 use pages::pair_pages::read_pairs;
 use pages::table_pages::{Columns, read_table};
+use priority_pages::kinds::PagePriority;
+use priority_pages::reading::read_priorities;
+use priority_pages::room::PriorityRoom;
 use source::PairSource;
 use std::io;
 
@@ -42,6 +45,26 @@ pub(crate) fn show_table(
         Ok(rows) => {
             let [a, b, c, d] = table;
             println!(rt; "{case}: {rows} rows, {a} {b} {c} {d}")
+        }
+        Err(fault) => show_fault(rt, case, fault),
+    }
+}
+
+/// Reads the priorities of a page of a table, and tells how many there are.
+pub(crate) fn show_priorities<P: PagePriority + Copy>(
+    rt: &HostRuntime,
+    case: &str,
+    page: Page,
+    bytes: &[u8],
+) -> io::Result<()> {
+    let mut table = [0u16; 4];
+    let Ok(room) = PriorityRoom::<P>::new(rt.alloc()) else {
+        return println!(rt; "{case}: no memory");
+    };
+    match read_priorities(room, &mut table, page, bytes) {
+        Ok(priorities) => {
+            let many = priorities.len();
+            println!(rt; "{case}: {many} priorities")
         }
         Err(fault) => show_fault(rt, case, fault),
     }

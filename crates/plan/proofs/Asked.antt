@@ -1,25 +1,30 @@
 -- What the questions tell, from what stands in the tables.
-use Rattle.std.proofs.Common.{◌≡◌, ℕ, ◌+◌, ◌≤◌, Bool, true, not, ◌&&◌, eqb, leb, List, length, Some, None, Option, sym, refl, ap, ◌∙◌, arith}
-use Rattle.std.proofs.lemmas.Bool.{and_parts, eqb-true, leb-true}
+use Rattle.std.proofs.Common.{◌≡◌, ℕ, zero, suc, ◌≤◌, Bool, true, not, ◌&&◌, eqb, leb, List, length, Some, None, Option, sym, refl, ap, ◌∙◌, arith}
+use Rattle.std.proofs.lemmas.Bool.{and_parts, eqb-true, leb-true, ne_eqb}
+use Rattle.std.specs.Bool.{then_some}
 use Rattle.refusal.specs.Limits.{side}
 use Rattle.refusal.specs.Counting.{count}
 use Rattle.refusal.specs.Refusals.{first_refusal}
 use Rattle.refusal.specs.Tables.{at, item, both}
 use Rattle.refusal.proofs.Counts.{count_same}
-use Rattle.priority.specs.Order.{level}
 use Rattle.source.specs.Pairs.{Pairs}
-use Rattle.matching.specs.Board.{Board, Plan, turned, slot_of, programme_in, placed, filled, tally, digit}
+use Rattle.matching.specs.Board.{Board, Plan, turned, programme_in, placed, filled}
 use Rattle.matching.specs.Lists.{plan_of, Points, number_or_none}
 use Rattle.matching.proofs.Lists.{plan_turned, placed_is, first_is}
-use Rattle.plan.specs.Held.{Held}
-use Rattle.plan.specs.Readings.{counted_of}
-use Rattle.plan.specs.Parts.{parts_fit, fits, board_of, whole_refusals, one_refusals}
+use Rattle.plan.specs.declared.Member.{Member}
+use Rattle.plan.specs.declared.Member.TheVariants.{Programme, Slot}
+use Rattle.plan.specs.Held.{Held, place_of}
+use Rattle.plan.specs.Counting.{counted_of, counted}
+use Rattle.plan.specs.Parts.{parts_fit, fits, board_of, place_told, whole_refusals}
 
+-- where the parts fit together, a question about the whole plan is not refused
 pub accepted_whole : (fit : Bool) → true ≡ fit → None ≡ first_refusal (whole_refusals fit)
 accepted_whole fit a = rw (sym a) refl
 
-pub accepted_one : (fit known : Bool) → true ≡ fit → true ≡ known → None ≡ first_refusal (one_refusals fit known)
-accepted_one fit known a b = rw (sym a, sym b) refl
+-- a place that is not 0
+pub some_place : (place : ℕ) → then_some (not (eqb place 0)) place ≡ number_or_none place
+some_place zero = refl
+some_place (suc k) = ap (λ b. then_some (not b) (suc k)) (ne_eqb (suc k) 0 (λ z. omega arith))
 
 module _ {P : Type 0} (pairs : Pairs) (xs ys : List P) (h : Held) (ok : true ≡ fits pairs xs ys h) where
   -- what fits has these counts
@@ -41,12 +46,11 @@ module _ {P : Type 0} (pairs : Pairs) (xs ys : List P) (h : Held) (ok : true ≡
     abbrev plan : Plan
     plan = plan_of h.slot_of
 
-    pub tell_slot : (i k : ℕ) (r : Option ℕ) → k ≡ at 0 h.slot_of i → r ≡ number_or_none k → r ≡ slot_of board plan i
-    tell_slot i k r e f = f ∙ ap number_or_none e ∙ sym (first_is h.slot_of h.programme_in there (length ys) fit_counts.1 i)
-
-    pub tell_programme : (s k : ℕ) (r : Option ℕ) → k ≡ at 0 h.programme_in s → r ≡ number_or_none k → r ≡ programme_in board plan s
-    tell_programme s k r e f =
-        f ∙ ap number_or_none e ∙ sym (first_is h.programme_in h.slot_of back (length xs) fit_counts.0 s)
+    -- a place that was read is what the board tells
+    pub tell_place : (member : Member) (place : ℕ) → place ≡ place_of h member → number_or_none place ≡ place_told board plan member
+    tell_place (Programme i) place e = ap number_or_none e ∙ sym (first_is h.slot_of h.programme_in there (length ys) fit_counts.1 i)
+    tell_place (Slot s) place e =
+        ap number_or_none e ∙ sym (first_is h.programme_in h.slot_of back (length xs) fit_counts.0 s)
         ∙ ap {B = Option ℕ} (λ q. programme_in board (turned q) s) (sym (plan_turned h.slot_of h.programme_in there back))
 
     -- those with an entry, by a question about their priorities: the placed programmes, and the filled slots
@@ -61,14 +65,8 @@ module _ {P : Type 0} (pairs : Pairs) (xs ys : List P) (h : Held) (ok : true ≡
     filled_count : (question : P → P → Bool) (p : P) (k : ℕ) → k ≡ counted_of question ys h.programme_in p → k ≡ count (λ s. filled board plan s && both question (item ys s) (Some p)) (length ys)
     filled_count question p k e = e ∙ sym (count_same _ _ (length ys) (λ s w. ap (λ b. b && both question (item ys s) (Some p)) (filled_is s)))
 
-    pub tell_tally : (p : P) (r : ℕ × ℕ) → r.0 ≡ counted_of reaches xs h.slot_of p → r.1 ≡ counted_of reaches ys h.programme_in p → r ≡ tally board plan p
-    tell_tally p r a b =
-        let x = placed_count reaches p r.0 a in
-        let y = filled_count reaches p r.1 b in
+    pub tell_counts : (question : P → P → Bool) (p : P) (k m : ℕ) → k ≡ counted_of question xs h.slot_of p → m ≡ counted_of question ys h.programme_in p → (k, m) ≡ counted board plan question p
+    tell_counts question p k m a b =
+        let x = placed_count question p k a in
+        let y = filled_count question p m b in
         λ i. (x i, y i)
-
-    pub tell_digit : (p : P) (r : ℕ × ℕ) → r.0 ≡ counted_of (level reaches) xs h.slot_of p → r.1 ≡ counted_of (level reaches) ys h.programme_in p → r.0 + r.1 ≡ digit board plan p
-    tell_digit p r a b =
-        let x = placed_count (level reaches) p r.0 a in
-        let y = filled_count (level reaches) p r.1 b in
-        omega arith

@@ -1,3 +1,4 @@
+pub mod Counted
 pub mod Numbers
 pub mod Writing
 pub mod Pairing

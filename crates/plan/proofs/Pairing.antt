@@ -1,13 +1,12 @@
 -- The two tables of a plan agree after each edit.
-use Rattle.std.proofs.Common.{◌≡◌, ℕ, zero, suc, ◌<◌, ◌≤◌, true, List, length, replicate, sym, refl, ap, ◌∙◌, ⊎_elim, arith}
+use Rattle.std.proofs.Common.{◌≡◌, ℕ, zero, suc, ◌<◌, ◌≤◌, true, List, length, sym, refl, ap, ◌∙◌, ⊎_elim, arith}
 use Rattle.std.proofs.lemmas.Bool.{and_parts, cases_eq, cases_lt}
 use Rattle.refusal.specs.Counting.{within}
 use Rattle.refusal.specs.Tables.{at, put}
 use Rattle.refusal.proofs.Counts.{within_bounds}
-use Rattle.refusal.proofs.Entries.{at-put_same, at-put_other, at_past, length-put}
+use Rattle.refusal.proofs.Entries.{at-put_same, at-put_other, at_past, length-put, put_past}
 use Rattle.matching.specs.Lists.{Points}
 use Rattle.plan.specs.Held.{Held, known_pair}
-use Rattle.plan.proofs.Writing.{put_past, at-zeros}
 
 -- the numbers of a pair that the plan has
 pub pair_bounds : (h : Held) (i s : ℕ) → true ≡ known_pair h i s → (0 < i) × (i ≤ length h.slot_of) × (0 < s) × (s ≤ length h.programme_in)
@@ -16,10 +15,6 @@ pair_bounds h i s e =
     let (i0, il) = within_bounds _ i a in
     let (s0, sl) = within_bounds _ s b in
     (omega arith, il, omega arith, sl)
-
--- a table of zeros points nowhere
-pub points_zeros : (n : ℕ) (there back : List ℕ) → there ≡ replicate n 0 → Points there back
-points_zeros n there back e i h = absurd (let q : at 0 there i ≡ 0 = ap (λ (l : List ℕ). at 0 l i) e ∙ at-zeros n i in let w : ⊥ = omega arith in w)
 
 -- where 0 was written 0 stands
 pub at-put_zero : (xs : List ℕ) (k : ℕ) → at 0 (put xs k 0) k ≡ 0

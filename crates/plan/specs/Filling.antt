@@ -4,7 +4,7 @@ use Rattle.refusal.specs.Counting.{count, first_from}
 use Rattle.source.specs.Pairs.{Pairs, holds}
 use Rattle.matching.specs.Lists.{plan_of}
 use Rattle.plan.specs.declared.filling.Twice.{Twice}
-use Rattle.plan.specs.declared.filling.Twice.TheVariants.{Programme, Slot}
+use Rattle.plan.specs.declared.Member.TheVariants.{Programme, Slot}
 use Rattle.plan.specs.Held.{Held, everyone, assigned}
 
 -- Programme i stands in two pairs, or more.
@@ -17,8 +17,8 @@ first_twice p = first_from (λ i. twice p i) p.programmes 1
 
 -- What is told of it: a programme first, then a slot.
 abbrev pub found_twice : Option ℕ → Option ℕ → Option Twice
-found_twice (Some i) slot = Some (Programme i)
-found_twice None (Some s) = Some (Slot s)
+found_twice (Some i) slot = Some (record { 0 = Programme i })
+found_twice None (Some s) = Some (record { 0 = Slot s })
 found_twice None None = None
 
 -- What an answer says is there twice, or none where the plan was filled.

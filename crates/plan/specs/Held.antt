@@ -20,9 +20,9 @@ pub record Held : Type 0 where
 -- What a plan holds.
 abbrev pub held : Plan → Held
 held plan = record {
-  slot_of = vec_items plan.slot_of;
-  programme_in = vec_items plan.programme_in;
-  attendance = record { programmes = vec_items plan.programmes_present; slots = vec_items plan.slots_present };
+  slot_of = vec_items plan.programmes.places;
+  programme_in = vec_items plan.slots.places;
+  attendance = record { programmes = vec_items plan.programmes.present; slots = vec_items plan.slots.present };
 }
 
 -- Everyone is present.
@@ -37,6 +37,11 @@ nothing programmes slots = record { slot_of = replicate programmes 0; programme_
 abbrev pub known : Held → Member → Bool
 known h (Programme i) = within (length h.slot_of) i
 known h (Slot s) = within (length h.programme_in) s
+
+-- The place of a member: the slot of a programme, or the programme of a slot, or 0.
+abbrev pub place_of : Held → Member → ℕ
+place_of h (Programme i) = at 0 h.slot_of i
+place_of h (Slot s) = at 0 h.programme_in s
 
 -- There are such a programme and such a slot.
 abbrev pub known_pair : Held → ℕ → ℕ → Bool

@@ -1,4 +1,4 @@
 pub mod Held
 pub mod Parts
-pub mod Readings
+pub mod Counting
 pub mod Filling

@@ -1,10 +1,12 @@
 -- A source, two rankings and a plan: when they fit together, and the board that they stand for.
-use Rattle.std.specs.Prelude.{ℕ, Bool, false, not, ◌&&◌, List, [], ◌∷◌, length, ◌==◌, nat_le}
+use Rattle.std.specs.Prelude.{ℕ, Bool, false, not, ◌&&◌, List, [], ◌∷◌, length, Option, ◌==◌, nat_le}
 use Rattle.refusal.specs.Limits.{side}
 use Rattle.refusal.specs.Tables.{at}
 use Rattle.priority.specs.declared.ranking.Ranking.{Ranking}
 use Rattle.source.specs.Pairs.{Pairs, holds}
-use Rattle.matching.specs.Board.{Board}
+use Rattle.matching.specs.Board.{Board, Plan, slot_of, programme_in}
+use Rattle.plan.specs.declared.Member.{Member}
+use Rattle.plan.specs.declared.Member.TheVariants.{Programme, Slot}
 use Rattle.plan.specs.declared.parts.Parts.{Parts}
 use Rattle.plan.specs.Held.{Held, Sides}
 
@@ -43,6 +45,11 @@ fit_with pairs parts plan = fits (pairs parts.source.now) (ranked parts.programm
 -- The board that the parts handed in stand for, with the plan's attendance.
 abbrev pub board_with : {S P : Type 0} (reaches : P → P → Bool) → (S → Pairs) → Parts S P → Held → Board reaches
 board_with reaches pairs parts plan = board_of reaches (pairs parts.source.now) (ranked parts.programmes.now) (ranked parts.slots.now) plan.attendance
+
+-- The slot in which a programme runs, or the programme that runs in a slot, or none.
+abbrev pub place_told : {P : Type 0} {reaches : P → P → Bool} → Board reaches → Plan → Member → Option ℕ
+place_told board plan (Programme i) = slot_of board plan i
+place_told board plan (Slot s) = programme_in board plan s
 
 -- A question about the whole plan: 12 when the parts do not fit together.
 abbrev pub whole_refusals : Bool → List (Bool × ℕ)

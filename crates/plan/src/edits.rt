@@ -3,11 +3,9 @@ ghost use Rattle.std.specs.Prelude.{◌≡◌, OnErr, OnOk};
 ghost use Rattle.refusal.specs.Refusals.{refusal_of, first_refusal};
 ghost use Rattle.plan.specs.Held.{held, assigned, vacated, with_presence, turned_sides, pair_refusals, member_refusals};
 
-use crate::tables::write;
 use crate::{Member, Plan};
 use refusal::Refusal;
 use refusal::limits::Num;
-use refusal::tables::entry;
 use std::mem::swap;
 
 impl Plan {
@@ -21,12 +19,12 @@ impl Plan {
         if !self.has_pair(programme, slot) {
             return Err(Refusal::UnknownNumber);
         }
-        let displaced = entry(0, &self.programme_in, slot as usize);
-        let vacated = entry(0, &self.slot_of, programme as usize);
-        write(&mut self.slot_of, displaced as usize, 0);
-        write(&mut self.slot_of, programme as usize, slot);
-        write(&mut self.programme_in, vacated as usize, 0);
-        write(&mut self.programme_in, slot as usize, programme);
+        let displaced = self.slots.place(slot);
+        let vacated = self.programmes.place(programme);
+        self.programmes.set_place(displaced, 0);
+        self.programmes.set_place(programme, slot);
+        self.slots.set_place(vacated, 0);
+        self.slots.set_place(slot, programme);
         Ok(())
     }
 
@@ -34,9 +32,9 @@ impl Plan {
     pub fn vacate(&mut self, slot: Num)
         ensures after { held self.new ≡ vacated (held self.old) slot }
     {
-        let displaced = entry(0, &self.programme_in, slot as usize);
-        write(&mut self.slot_of, displaced as usize, 0);
-        write(&mut self.programme_in, slot as usize, 0);
+        let displaced = self.slots.place(slot);
+        self.programmes.set_place(displaced, 0);
+        self.slots.set_place(slot, 0);
     }
 
     /// Marks the member as present or absent. Refuses 10 where there is no such member.
@@ -49,12 +47,8 @@ impl Plan {
             return Err(Refusal::UnknownNumber);
         }
         match member {
-            Member::Programme(number) => write(
-                &mut self.programmes_present,
-                number as usize,
-                present,
-            ),
-            Member::Slot(number) => write(&mut self.slots_present, number as usize, present),
+            Member::Programme(number) => self.programmes.set_present(number, present),
+            Member::Slot(number) => self.slots.set_present(number, present),
         }
         Ok(())
     }
@@ -63,7 +57,6 @@ impl Plan {
     pub fn turn(&mut self)
         ensures after { held self.new ≡ turned_sides (held self.old) }
     {
-        swap(&mut self.slot_of, &mut self.programme_in);
-        swap(&mut self.programmes_present, &mut self.slots_present);
+        swap(&mut self.programmes, &mut self.slots);
     }
 }

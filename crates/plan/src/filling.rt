@@ -5,9 +5,9 @@ ghost use Rattle.refusal.specs.Counting.{within};
 ghost use Rattle.source.specs.Pairs.{turned, first_slot};
 ghost use Rattle.grid.specs.GridPairs.{grid_pairs};
 ghost use Rattle.plan.specs.Held.{held};
-ghost use Rattle.plan.specs.Filling.{twice, first_twice, found_twice, twice_of, SameCounts, with_slot, PlanOf};
+ghost use Rattle.plan.specs.Filling.{first_twice, found_twice, twice_of, SameCounts, with_slot, PlanOf};
 
-use crate::Plan;
+use crate::{Member, Plan};
 use grid::Grid;
 use refusal::limits::Num;
 use source::turned::Turned;
@@ -15,30 +15,13 @@ use source::{PairSource, count_slots};
 
 /// What stands in two pairs, so that the pairs are no plan.
 #[derive(Clone, Copy, PartialEq, Eq, Debug)]
-pub enum Twice {
-    /// The programme of that number.
-    Programme(Num),
-    /// The slot of that number.
-    Slot(Num),
-}
-
-/// Whether the programme stands in two pairs.
-fn is_twice<S: PairSource>(source: &S, programme: Num) -> bool
-    ensures { result ≡ twice (S.PairSource.pairs source.now) programme }
-{
-    count_slots(source, programme) >= 2
-}
+pub struct Twice(pub Member);
 
 /// The first programme that stands in two pairs, or none.
 fn find_twice<S: PairSource>(source: &S) -> Option<Num>
     ensures { result ≡ first_twice (S.PairSource.pairs source.now) }
 {
-    for programme in 1..=source.programmes() {
-        if is_twice(source, programme) {
-            return Some(programme);
-        }
-    }
-    None
+    (1..=source.programmes()).find(|programme| count_slots(source, *programme) >= 2)
 }
 
 impl Plan {
@@ -50,10 +33,10 @@ impl Plan {
         ensures after { OnOk result (PlanOf (grid_pairs grid.now) (held self.new)) }
     {
         if let Some(programme) = find_twice(grid) {
-            return Err(Twice::Programme(programme));
+            return Err(Twice(Member::Programme(programme)));
         }
         if let Some(slot) = find_twice(&Turned(grid)) {
-            return Err(Twice::Slot(slot));
+            return Err(Twice(Member::Slot(slot)));
         }
         self.take_pairs(grid);
         Ok(())

@@ -5,7 +5,7 @@ ghost use Rattle.source.specs.Makes.{count_refusals};
 ghost use Rattle.plan.specs.Held.{held, nothing};
 
 use crate::Plan;
-use crate::tables::refill;
+use crate::side::Side;
 use refusal::Refusal;
 use refusal::limits::SIDE;
 use std::alloc::{AllocError, Global};
@@ -15,16 +15,9 @@ impl Plan {
     pub fn new(heap: Global) -> Result<Plan, AllocError>
         ensures after { IfOk result (λ plan. held plan ≡ nothing 0 0) }
     {
-        let slot_of = Vec::with_capacity(heap, SIDE)?;
-        let programme_in = Vec::with_capacity(heap, SIDE)?;
-        let programmes_present = Vec::with_capacity(heap, SIDE)?;
-        let slots_present = Vec::with_capacity(heap, SIDE)?;
-        Ok(Plan {
-            slot_of,
-            programme_in,
-            programmes_present,
-            slots_present,
-        })
+        let programmes = Side::new(heap)?;
+        let slots = Side::new(heap)?;
+        Ok(Plan { programmes, slots })
     }
 
     /// Gives the plan these counts, with everyone present and nobody placed. Refuses 12 when a count
@@ -37,10 +30,8 @@ impl Plan {
         if programmes > SIDE || slots > SIDE {
             return Err(Refusal::Mismatch);
         }
-        refill(&mut self.slot_of, programmes, 0);
-        refill(&mut self.programme_in, slots, 0);
-        refill(&mut self.programmes_present, programmes, true);
-        refill(&mut self.slots_present, slots, true);
+        self.programmes.reset(programmes);
+        self.slots.reset(slots);
         Ok(())
     }
 }

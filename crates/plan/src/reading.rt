@@ -4,31 +4,27 @@ ghost use Rattle.plan.specs.Held.{held, known_pair, known, presence};
 
 use crate::{Member, Plan};
 use refusal::limits::Num;
-use refusal::tables::entry;
 
 impl Plan {
     /// How many programmes there are.
     pub fn programmes(&self) -> usize
         ensures { result ≡ length (held self.now).slot_of }
     {
-        self.slot_of.len()
+        self.programmes.len()
     }
 
     /// How many slots there are.
     pub fn slots(&self) -> usize
         ensures { result ≡ length (held self.now).programme_in }
     {
-        self.programme_in.len()
+        self.slots.len()
     }
 
     /// Whether there are such a programme and such a slot.
     pub fn has_pair(&self, programme: Num, slot: Num) -> bool
         ensures { result ≡ known_pair (held self.now) programme slot }
     {
-        1 <= programme
-            && programme as usize <= self.programmes()
-            && 1 <= slot
-            && slot as usize <= self.slots()
+        self.programmes.has(programme) && self.slots.has(slot)
     }
 
     /// Whether there is such a programme or slot.
@@ -36,8 +32,8 @@ impl Plan {
         ensures { result ≡ known (held self.now) member }
     {
         match member {
-            Member::Programme(number) => 1 <= number && number as usize <= self.programmes(),
-            Member::Slot(number) => 1 <= number && number as usize <= self.slots(),
+            Member::Programme(number) => self.programmes.has(number),
+            Member::Slot(number) => self.slots.has(number),
         }
     }
 
@@ -46,8 +42,8 @@ impl Plan {
         ensures { result ≡ presence (held self.now) member }
     {
         match member {
-            Member::Programme(number) => entry(false, self.programmes_present(), number as usize),
-            Member::Slot(number) => entry(false, self.slots_present(), number as usize),
+            Member::Programme(number) => self.programmes.is_present(number),
+            Member::Slot(number) => self.slots.is_present(number),
         }
     }
 
@@ -55,27 +51,27 @@ impl Plan {
     pub fn slot_of_table(&self) -> &[Num]
         ensures { result.now ≡ (held self.now).slot_of }
     {
-        &self.slot_of
+        &self.programmes.places
     }
 
     /// For each slot the programme in it, or 0 where it is not filled.
     pub fn programme_in_table(&self) -> &[Num]
         ensures { result.now ≡ (held self.now).programme_in }
     {
-        &self.programme_in
+        &self.slots.places
     }
 
     /// For each programme whether it is present.
     pub fn programmes_present(&self) -> &[bool]
         ensures { result.now ≡ (held self.now).attendance.programmes }
     {
-        &self.programmes_present
+        &self.programmes.present
     }
 
     /// For each slot whether it is present.
     pub fn slots_present(&self) -> &[bool]
         ensures { result.now ≡ (held self.now).attendance.slots }
     {
-        &self.slots_present
+        &self.slots.present
     }
 }

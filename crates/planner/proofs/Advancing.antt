@@ -1,6 +1,7 @@
 -- One root: a path that is applied, or names that are given.
 use Rattle.std.proofs.Common.{◌≡◌, ℕ, ◌<◌, ◌≤◌, Bool, true, false, List, length, sym, subst, ⊎_elim, arith}
 use Rattle.search.specs.declared.queue.Reached.{Reached}
+use Rattle.refusal.specs.Limits.{side}
 use Rattle.refusal.specs.Tables.{at, put}
 use Rattle.search.specs.Scene.{scene, Agrees}
 use Rattle.search.specs.Search.{Stuck, Path, Kept}
@@ -53,7 +54,7 @@ module _ (G : Setting) (slot_of member_in names : List ℕ) (done : List Bool) (
 
 -- a root of a plan, whose parts fit together
 module _ {P : Type 0} {reaches : P → P → Bool} (laws : Ordered reaches) (pairs : Pairs) (ranking : List P) (plan : Plan) (names : List ℕ) (done : List Bool) (root : ℕ)
-    (fits : side_fits pairs ranking (held plan) ≡ true) (room : length ranking ≤ length done)
+    (fits : side_fits pairs ranking (held plan) ≡ true) (room : length done ≡ side)
     (clear : Clear (setting_of reaches pairs ranking (held plan).attendance) (held plan).programme_in)
     (st : StateOf (setting_of reaches pairs ranking (held plan).attendance) (held plan).slot_of (held plan).programme_in names done)
     (ch : ChosenOf (setting_of reaches pairs ranking (held plan).attendance) (held plan).slot_of done root) where
@@ -64,7 +65,7 @@ module _ {P : Type 0} {reaches : P → P → Bool} (laws : Ordered reaches) (pai
   members_len = omega (arith, (plan_lengths plan).programmes, (fit_parts pairs ranking (held plan) fits).1)
 
   members_few : length G.members ≤ length done
-  members_few = omega (arith, members_len)
+  members_few = omega (arith, (plan_lengths plan).programmes, (plan_lengths plan).few)
 
   ranked : Ranked (stage_of G)
   ranked = ranked_of laws ranking G.allowed G.members G.slots members_len

@@ -36,7 +36,7 @@ present_free marks n k i len =
     (λ (f : at false marks i ≡ false). and_left _ _ (and_right (within n i) _ f) ∙ sym f)
     (cases_Bool (at false marks i))
 
-module _ {P : Type 0} (reaches : P → P → Bool) (pairs : Pairs) (xs ys : List P) (attendance : Sides Bool) (programmes-len : length attendance.programmes ≡ length xs) (slots_len : length attendance.slots ≡ length ys) where
+module _ {P : Type 0} (reaches : P → P → Bool) (pairs : Pairs) (xs ys : List P) (attendance : Sides Bool) (programmes_len : length attendance.programmes ≡ length xs) (slots_len : length attendance.slots ≡ length ys) where
   abbrev board : Board reaches
   board = board_of reaches pairs xs ys attendance
 
@@ -45,7 +45,7 @@ module _ {P : Type 0} (reaches : P → P → Bool) (pairs : Pairs) (xs ys : List
     programmes = refl;
     slot_side = refl;
     allows = λ i s f p. refl;
-    programmes_free = λ i. present_free attendance.programmes (length xs) (length ys) i programmes-len;
+    programmes_free = λ i. present_free attendance.programmes (length xs) (length ys) i programmes_len;
     slots_free = λ s. present_free attendance.slots (length ys) (length xs) s slots_len;
   }
 
@@ -82,77 +82,77 @@ holds_turned pairs = fun_ext (λ s. fun_ext (λ i. holds_swapped pairs s i))
 abbrev swapped : Sides Bool → Sides Bool
 swapped a = record { programmes = a.slots; slots = a.programmes }
 
-module _ {P : Type 0} (reaches : P → P → Bool) (pairs : Pairs) (xs ys : List P) (first after turned-after : Held) (names : List ℕ)
+module _ {P : Type 0} (reaches : P → P → Bool) (pairs : Pairs) (xs ys : List P) (first after turned_after : Held) (names : List ℕ)
     (one : Ran (setting_of reaches pairs xs first.attendance) first.slot_of first.programme_in after.slot_of after.programme_in names)
-    (same : after.attendance ≡ first.attendance) (turn : turned-after ≡ turned_sides after) where
-  turned_attendance : turned-after.attendance ≡ swapped first.attendance
+    (same : after.attendance ≡ first.attendance) (turn : turned_after ≡ turned_sides after) where
+  turned_attendance : turned_after.attendance ≡ swapped first.attendance
   turned_attendance = ap (λ (h : Held). h.attendance) turn ∙ ap swapped same
 
-  pub second_fits : side_fits pairs xs first ≡ true → length first.programme_in ≡ length ys → Lengths first → Lengths after → side_fits (turned pairs) ys turned-after ≡ true
+  pub second_fits : side_fits pairs xs first ≡ true → length first.programme_in ≡ length ys → Lengths first → Lengths after → side_fits (turned pairs) ys turned_after ≡ true
   second_fits fits len a b =
       let fit = fit_parts pairs xs first fits in
       let p = ap (λ (s : Sides Bool). length s.programmes) same in
       let q = ap (λ (s : Sides Bool). length s.slots) same in
-      let u : length turned-after.slot_of ≡ length ys = ap (λ (h : Held). length h.slot_of) turn ∙ (let z : length after.programme_in ≡ length ys = omega (arith, a.slots, b.slots) in z) in
-      let v : pairs.programmes ≡ length turned-after.programme_in = fit.0 ∙ (let z : length xs ≡ length after.slot_of = omega (arith, a.programmes, b.programmes, fit.1) in z) ∙ sym (ap (λ (h : Held). length h.programme_in) turn) in
+      let u : length turned_after.slot_of ≡ length ys = ap (λ (h : Held). length h.slot_of) turn ∙ (let z : length after.programme_in ≡ length ys = omega (arith, a.slots, b.slots) in z) in
+      let v : pairs.programmes ≡ length turned_after.programme_in = fit.0 ∙ (let z : length xs ≡ length after.slot_of = omega (arith, a.programmes, b.programmes, fit.1) in z) ∙ sym (ap (λ (h : Held). length h.programme_in) turn) in
       let w : pairs.slots ≡ length ys = omega (arith, fit.2) in
       and_from _ _ (eq-eqb _ _ w) (and_from _ _ (eq-eqb _ _ u) (eq-eqb _ _ v))
 
   pub second_clear : Agrees first.slot_of first.programme_in → AllStand (holds pairs) first.attendance.programmes first.attendance.slots first.slot_of
-      → Clear (setting_of reaches (turned pairs) ys turned-after.attendance) turned-after.programme_in
+      → Clear (setting_of reaches (turned pairs) ys turned_after.attendance) turned_after.programme_in
   second_clear ag law =
       let clear = clear_other (setting_of reaches pairs xs first.attendance) first.slot_of first.programme_in after.slot_of after.programme_in
       (clear_member (holds pairs) first.attendance.programmes first.attendance.slots first.slot_of first.programme_in ag law) one.moves in
-      subst (λ (a : Sides Bool). Clear (setting_of reaches (turned pairs) ys a) turned-after.programme_in) (sym turned_attendance)
+      subst (λ (a : Sides Bool). Clear (setting_of reaches (turned pairs) ys a) turned_after.programme_in) (sym turned_attendance)
       (subst (λ (h : Held). Clear (setting_of reaches (turned pairs) ys (swapped first.attendance)) h.programme_in) (sym turn) clear)
 
-  module _ (again last : Held) (slot-names : List ℕ)
-      (two : Ran (setting_of reaches (turned pairs) ys turned-after.attendance) turned-after.slot_of turned-after.programme_in again.slot_of again.programme_in slot-names)
-      (still : again.attendance ≡ turned-after.attendance) (turn-back : last ≡ turned_sides again) where
+  module _ (again last : Held) (slot_names : List ℕ)
+      (two : Ran (setting_of reaches (turned pairs) ys turned_after.attendance) turned_after.slot_of turned_after.programme_in again.slot_of again.programme_in slot_names)
+      (still : again.attendance ≡ turned_after.attendance) (turn_back : last ≡ turned_sides again) where
     pub both_attendance : last.attendance ≡ first.attendance
-    both_attendance = ap (λ (h : Held). h.attendance) turn-back ∙ ap swapped (still ∙ turned_attendance)
+    both_attendance = ap (λ (h : Held). h.attendance) turn_back ∙ ap swapped (still ∙ turned_attendance)
 
     -- the second pass, as one on the tables of the first
-    second : Ran (setting (λ s i. holds pairs i s) (holds_at reaches ys) first.attendance.slots first.attendance.programmes) after.programme_in after.slot_of last.programme_in last.slot_of slot-names
+    second : Ran (setting (λ s i. holds pairs i s) (holds_at reaches ys) first.attendance.slots first.attendance.programmes) after.programme_in after.slot_of last.programme_in last.slot_of slot_names
     second =
-        subst (λ (h : Held). Ran (setting (λ s i. holds pairs i s) (holds_at reaches ys) first.attendance.slots first.attendance.programmes) after.programme_in after.slot_of h.programme_in h.slot_of slot-names) (sym turn-back)
-        (subst (λ (a : ℕ → ℕ → Bool). Ran (setting a (holds_at reaches ys) first.attendance.slots first.attendance.programmes) after.programme_in after.slot_of again.slot_of again.programme_in slot-names) (holds_turned pairs)
-        (subst (λ (a : Sides Bool). Ran (setting_of reaches (turned pairs) ys a) after.programme_in after.slot_of again.slot_of again.programme_in slot-names) turned_attendance
-        (subst (λ (h : Held). Ran (setting_of reaches (turned pairs) ys turned-after.attendance) h.slot_of h.programme_in again.slot_of again.programme_in slot-names) turn two)))
+        subst (λ (h : Held). Ran (setting (λ s i. holds pairs i s) (holds_at reaches ys) first.attendance.slots first.attendance.programmes) after.programme_in after.slot_of h.programme_in h.slot_of slot_names) (sym turn_back)
+        (subst (λ (a : ℕ → ℕ → Bool). Ran (setting a (holds_at reaches ys) first.attendance.slots first.attendance.programmes) after.programme_in after.slot_of again.slot_of again.programme_in slot_names) (holds_turned pairs)
+        (subst (λ (a : Sides Bool). Ran (setting_of reaches (turned pairs) ys a) after.programme_in after.slot_of again.slot_of again.programme_in slot_names) turned_attendance
+        (subst (λ (h : Held). Ran (setting_of reaches (turned pairs) ys turned_after.attendance) h.slot_of h.programme_in again.slot_of again.programme_in slot_names) turn two)))
 
     pub both_pass : side_fits pairs xs first ≡ true → length first.programme_in ≡ length ys → Lengths first → Lengths last → Agrees first.slot_of first.programme_in
-        → AllStand (holds pairs) first.attendance.programmes first.attendance.slots first.slot_of → Passes (board_of reaches pairs xs ys first.attendance) (plan_of last.slot_of) (names_of names slot-names)
+        → AllStand (holds pairs) first.attendance.programmes first.attendance.slots first.slot_of → Passes (board_of reaches pairs xs ys first.attendance) (plan_of last.slot_of) (names_of names slot_names)
     both_pass fits len a b ag law =
         let fit = fit_parts pairs xs first fits in
         let p = ap (λ (s : Sides Bool). length s.programmes) both_attendance in
         let q = ap (λ (s : Sides Bool). length s.slots) both_attendance in
-        let programmes-len : length first.attendance.programmes ≡ length xs = omega (arith, a.programmes, fit.1) in
+        let programmes_len : length first.attendance.programmes ≡ length xs = omega (arith, a.programmes, fit.1) in
         let slots_len : length first.attendance.slots ≡ length ys = omega (arith, a.slots) in
-        passes_of (holds pairs) xs ys first.attendance.programmes first.attendance.slots first.slot_of first.programme_in after.slot_of after.programme_in last.slot_of last.programme_in names slot-names ag
+        passes_of (holds pairs) xs ys first.attendance.programmes first.attendance.slots first.slot_of first.programme_in after.slot_of after.programme_in last.slot_of last.programme_in names slot_names ag
         (omega (arith, b.programmes)) (omega (arith, b.slots)) one second (board_of reaches pairs xs ys first.attendance)
-        (stands_board reaches pairs xs ys first.attendance programmes-len slots_len) (lawful_board reaches pairs xs ys first.attendance programmes-len slots_len first.slot_of first.programme_in ag law)
+        (stands_board reaches pairs xs ys first.attendance programmes_len slots_len) (lawful_board reaches pairs xs ys first.attendance programmes_len slots_len first.slot_of first.programme_in ag law)
 
 -- ---- the certificate as one list
-pub names_listed : (names slot-names : List ℕ) (n : ℕ) → length names ≡ n → certificate_of n (names ++ slot-names) ≡ names_of names slot-names
-names_listed names slot-names n e =
-    subst (λ (k : ℕ). certificate_of k (names ++ slot-names) ≡ names_of names slot-names) e
-    (ap (λ (l : List ℕ). names_of l (drop (length names) (names ++ slot-names))) (take-append_seam names slot-names) ∙ ap (names_of names) (drop-append_seam names slot-names))
+pub names_listed : (names slot_names : List ℕ) (n : ℕ) → length names ≡ n → certificate_of n (names ++ slot_names) ≡ names_of names slot_names
+names_listed names slot_names n e =
+    subst (λ (k : ℕ). certificate_of k (names ++ slot_names) ≡ names_of names slot_names) e
+    (ap (λ (l : List ℕ). names_of l (drop (length names) (names ++ slot_names))) (take-append_seam names slot_names) ∙ ap (names_of names) (drop-append_seam names slot_names))
 
 -- ---- what passes is judged so, and is best
-module _ {P : Type 0} {reaches : P → P → Bool} (laws : Ordered reaches) (pairs : Pairs) (xs ys : List P) (attendance : Sides Bool) (slot_of names slot-names : List ℕ)
-    (pass : Passes (board_of reaches pairs xs ys attendance) (plan_of slot_of) (names_of names slot-names)) where
-  pub pass_judged : length names ≡ length xs → passes (board_of reaches pairs xs ys attendance) (plan_of slot_of) (certificate_of (length xs) (names ++ slot-names)) ≡ true
+module _ {P : Type 0} {reaches : P → P → Bool} (laws : Ordered reaches) (pairs : Pairs) (xs ys : List P) (attendance : Sides Bool) (slot_of names slot_names : List ℕ)
+    (pass : Passes (board_of reaches pairs xs ys attendance) (plan_of slot_of) (names_of names slot_names)) where
+  pub pass_judged : length names ≡ length xs → passes (board_of reaches pairs xs ys attendance) (plan_of slot_of) (certificate_of (length xs) (names ++ slot_names)) ≡ true
   pass_judged len =
-      subst (λ (c : Certificate). passes (board_of reaches pairs xs ys attendance) (plan_of slot_of) c ≡ true) (sym (names_listed names slot-names (length xs) len))
-      ((test_is_exact (board_of reaches pairs xs ys attendance) (plan_of slot_of) (names_of names slot-names)
+      subst (λ (c : Certificate). passes (board_of reaches pairs xs ys attendance) (plan_of slot_of) c ≡ true) (sym (names_listed names slot_names (length xs) len))
+      ((test_is_exact (board_of reaches pairs xs ys attendance) (plan_of slot_of) (names_of names slot_names)
       (λ i s h. let r = may_run_parts (board_of reaches pairs xs ys attendance) i s (pass.lawful.fits i s h) in and_from _ _ (and_parts (within (length xs) i) _ r.0).0 (and_parts (within (length ys) s) _ r.1).0)
       (λ i s h. absurd (false≢true h))).1 pass)
 
   pub pass_best : Best (board_of reaches pairs xs ys attendance) (plan_of slot_of)
-  pass_best = passing_is_best laws (board_of reaches pairs xs ys attendance) (plan_of slot_of) (names_of names slot-names) pass
+  pass_best = passing_is_best laws (board_of reaches pairs xs ys attendance) (plan_of slot_of) (names_of names slot_names) pass
 
 -- the same of equal parts
-pub passes_at : {P : Type 0} (reaches : P → P → Bool) (pairs : Pairs) (xs ys xs' ys' : List P) (attendance attendance' : Sides Bool) (slot_of names names' slot-names slot-names' : List ℕ)
-    → xs' ≡ xs → ys' ≡ ys → attendance' ≡ attendance → names' ≡ names → slot-names' ≡ slot-names
-    → Passes (board_of reaches pairs xs' ys' attendance') (plan_of slot_of) (names_of names slot-names) → Passes (board_of reaches pairs xs ys attendance) (plan_of slot_of) (names_of names' slot-names')
-passes_at reaches pairs xs ys xs' ys' attendance attendance' slot_of names names' slot-names slot-names' p q e a b h = rw (← p, ← q, ← e, a, b) h
+pub passes_at : {P : Type 0} (reaches : P → P → Bool) (pairs : Pairs) (xs ys xs' ys' : List P) (attendance attendance' : Sides Bool) (slot_of names names' slot_names slot_names' : List ℕ)
+    → xs' ≡ xs → ys' ≡ ys → attendance' ≡ attendance → names' ≡ names → slot_names' ≡ slot_names
+    → Passes (board_of reaches pairs xs' ys' attendance') (plan_of slot_of) (names_of names slot_names) → Passes (board_of reaches pairs xs ys attendance) (plan_of slot_of) (names_of names' slot_names')
+passes_at reaches pairs xs ys xs' ys' attendance attendance' slot_of names names' slot_names slot_names' p q e a b h = rw (← p, ← q, ← e, a, b) h

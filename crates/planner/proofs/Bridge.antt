@@ -9,7 +9,7 @@ use Rattle.matching.specs.Certificate.{at_least, blocks, Naming, Rules, Passes}
 use Rattle.matching.specs.Lists.{plan_of}
 use Rattle.matching.proofs.Soundness.{may_run_parts, lawful_turned}
 use Rattle.search.specs.Scene.{Agrees}
-use Rattle.search.specs.Search.{Lawful as Within-pairs}
+use Rattle.search.specs.Search.{Lawful as WithinPairs}
 use Rattle.search.proofs.Agreement.{at_in, at_pos, mark_pos}
 use Rattle.planner.specs.Pass.{Settled}
 use Rattle.planner.specs.Run.{Setting, setting, stage_of, Moves, Ran, names_of}
@@ -83,7 +83,7 @@ module _ {P : Type 0} {reaches : P → P → Bool} (board : Board reaches) (allo
     is_placed : (i : ℕ) → 0 < i → 0 < at 0 slot_of i → placed board plan i ≡ true
     is_placed i i0 h =
         let back = ag.there i (at 0 slot_of i) i0 h refl in
-        let s-in = at_in member_in (at 0 slot_of i) (omega arith) in
+        let s_in = at_in member_in (at 0 slot_of i) (omega arith) in
         any_here (plan i) (size board.slots) (at 0 slot_of i) (within_from (size board.slots) (at 0 slot_of i) h (omega (arith, slot_count))) (sh.from i (at 0 slot_of i) i0 h refl)
 
     not_placed : (i : ℕ) → at 0 slot_of i ≡ 0 → placed board plan i ≡ false
@@ -102,8 +102,8 @@ module _ {P : Type 0} {reaches : P → P → Bool} (board : Board reaches) (allo
               let s0 = mark_pos slots s pl in
               let (y0, n0, up) = k.blocked s pl (sym (st.allows i s k.free pl) ∙ o) in
               let y = at 0 member_in s in
-              let y-names = set.named (at 0 member_in s) n0 in
-              any_here (blocks board plan (at 0 names) (at 0 names i) s) (size board.programmes) (at 0 member_in s) (free_within (at 0 member_in s) y-names.free)
+              let y_names = set.named (at 0 member_in s) n0 in
+              any_here (blocks board plan (at 0 names) (at 0 names i) s) (size board.programmes) (at 0 member_in s) (free_within (at 0 member_in s) y_names.free)
               (and_from (plan (at 0 member_in s) s) _ (sh.from (at 0 member_in s) s y0 s0 (ag.back (at 0 member_in s) s y0 s0 refl))
               (and_from (not (eqb (at 0 names (at 0 member_in s)) 0)) _ (not_from_false _ (ne_eqb (at 0 names (at 0 member_in s)) 0 (λ e. let z : ⊥ = omega arith in z)))
               (sym (ranks_read (at 0 names (at 0 member_in s)) (at 0 names i)) ∙ up)));
@@ -121,7 +121,7 @@ module _ {P : Type 0} {reaches : P → P → Bool} (board : Board reaches) (allo
   -- moves keep a plan lawful
   pub lawful_moves : (plan plan' : Plan) (slot_of member_in slot_of' member_in' : List ℕ) → Shows plan slot_of → Shows plan' slot_of' → Agrees slot_of member_in → Moves G slot_of member_in slot_of' member_in' → Lawful board plan → Lawful board plan'
   lawful_moves plan plan' slot_of member_in slot_of' member_in' sh sh' ag mv law =
-      let fit : Within-pairs (may_run board) slot_of' = mv.lawful (may_run board)
+      let fit : WithinPairs (may_run board) slot_of' = mv.lawful (may_run board)
       (λ x s f p o. and_from (attends board.programmes x) _ (free_open x f) (and_from (attends board.slots s) _ (place_open s p) (st.allows x s f p ∙ o)))
       (λ x u u0 e. ⊎_elim (λ x0. law.fits x u (sh.from x u x0 u0 e)) (λ z. absurd (let b : at 0 slot_of x ≡ 0 = ap (at 0 slot_of) z in let w : ⊥ = omega arith in w)) (cases_zero x)) in
       record {
@@ -130,8 +130,8 @@ module _ {P : Type 0} {reaches : P → P → Bool} (board : Board reaches) (allo
         one_programme = λ i j s h k. let (i0, s0, e) = sh'.to i s h in let (j0, _, d) = sh'.to j s k in sym (mv.agrees.there i s i0 s0 e) ∙ mv.agrees.there j s j0 s0 d;
         keeps = λ i s lk.
             let (i0, s0, e) = sh.to i s (law.keeps i s lk) in
-            let in-i = (and_parts (within (size board.programmes) i) _ (may_run_parts board i s (law.fits i s (law.keeps i s lk))).0).0 in
-            let locked : any (turned board.locked s) (size board.programmes) ≡ true = any_here (turned board.locked s) (size board.programmes) i in-i lk in
+            let in_i = (and_parts (within (size board.programmes) i) _ (may_run_parts board i s (law.fits i s (law.keeps i s lk))).0).0 in
+            let locked : any (turned board.locked s) (size board.programmes) ≡ true = any_here (turned board.locked s) (size board.programmes) i in_i lk in
             let shut : at false slots s ≡ false = ⊎_elim
             (λ p. absurd (both_ways _ (not-true _ (and_parts (attends board.slots s) _ (st.slots_free s ∙ p)).1) locked))
             (λ z. z) (cases_Bool (at false slots s)) in
@@ -146,30 +146,30 @@ pub clear_other : (G : Setting) (slot_of member_in slot_of' member_in' : List �
     → (x : ℕ) → at false G.members x ≡ true → 0 < at 0 slot_of' x → at false G.slots (at 0 slot_of' x) ≡ true
 clear_other G slot_of member_in slot_of' member_in' clear mv x f h =
     let Q : ℕ → ℕ → Bool = λ x u. not (at false G.members x) || at false G.slots u in
-    let was : Within-pairs Q slot_of = λ x u u0 e. ⊎_elim
+    let was : WithinPairs Q slot_of = λ x u u0 e. ⊎_elim
     (λ fx. or_right _ _ (ap (at false G.slots) (sym e) ∙ clear x fx (omega arith)))
     (λ fx. or_left _ _ (not_from_false _ fx))
     (cases_Bool (at false G.members x)) in
     ⊎_elim (λ e. absurd (both_ways _ (not-true _ e) f)) (λ e. e) (or_cases (not (at false G.members x)) (at false G.slots (at 0 slot_of' x)) (mv.lawful Q (λ x u fx p o. or_right _ _ p) was x (at 0 slot_of' x) h refl))
 
 -- two passes
-module _ {P : Type 0} {reaches : P → P → Bool} (allowed : ℕ → ℕ → Bool) (xs ys : List P) (members slots : List Bool) (slot_of member_in slot_of' member_in' slot-of'' member-in'' names slot-names : List ℕ) (ag : Agrees slot_of member_in) (slot_len : length slot-of'' ≡ length xs) (member_len : length member-in'' ≡ length ys)
-    (one : Ran (setting allowed (holds_at reaches xs) members slots) slot_of member_in slot_of' member_in' names) (two : Ran (setting (λ s i. allowed i s) (holds_at reaches ys) slots members) member_in' slot_of' member-in'' slot-of'' slot-names) where
-  back_agrees : Agrees slot-of'' member-in''
-  back_agrees = turned_tables member-in'' slot-of'' two.moves.agrees
+module _ {P : Type 0} {reaches : P → P → Bool} (allowed : ℕ → ℕ → Bool) (xs ys : List P) (members slots : List Bool) (slot_of member_in slot_of' member_in' slot_of'' member_in'' names slot_names : List ℕ) (ag : Agrees slot_of member_in) (slot_len : length slot_of'' ≡ length xs) (member_len : length member_in'' ≡ length ys)
+    (one : Ran (setting allowed (holds_at reaches xs) members slots) slot_of member_in slot_of' member_in' names) (two : Ran (setting (λ s i. allowed i s) (holds_at reaches ys) slots members) member_in' slot_of' member_in'' slot_of'' slot_names) where
+  back_agrees : Agrees slot_of'' member_in''
+  back_agrees = turned_tables member_in'' slot_of'' two.moves.agrees
 
   turned_agrees : Agrees member_in' slot_of'
   turned_agrees = turned_tables slot_of' member_in' one.moves.agrees
 
-  pub passes_of : (board : Board reaches) → Stands board allowed xs ys members slots → Lawful board (plan_of slot_of) → Passes board (plan_of slot-of'') (names_of names slot-names)
+  pub passes_of : (board : Board reaches) → Stands board allowed xs ys members slots → Lawful board (plan_of slot_of) → Passes board (plan_of slot_of'') (names_of names slot_names)
   passes_of board st law =
       let law' = lawful_moves board allowed xs ys members slots st (plan_of slot_of) (plan_of slot_of') slot_of member_in slot_of' member_in' (shows_plan slot_of) (shows_plan slot_of') ag one.moves law in
-      let st-turned = stands_turned board allowed xs ys members slots st in
-      let law'' : Lawful (turn board) (turned (plan_of slot-of'')) = lawful_moves (turn board) (λ s i. allowed i s) ys xs slots members st-turned (turned (plan_of slot_of')) (turned (plan_of slot-of'')) member_in' slot_of' member-in'' slot-of''
-      (shows_turned (plan_of slot_of') slot_of' member_in' one.moves.agrees (shows_plan slot_of')) (shows_turned (plan_of slot-of'') slot-of'' member-in'' back_agrees (shows_plan slot-of'')) turned_agrees two.moves (lawful_turned board (plan_of slot_of') law') in
+      let st_turned = stands_turned board allowed xs ys members slots st in
+      let law'' : Lawful (turn board) (turned (plan_of slot_of'')) = lawful_moves (turn board) (λ s i. allowed i s) ys xs slots members st_turned (turned (plan_of slot_of')) (turned (plan_of slot_of'')) member_in' slot_of' member_in'' slot_of''
+      (shows_turned (plan_of slot_of') slot_of' member_in' one.moves.agrees (shows_plan slot_of')) (shows_turned (plan_of slot_of'') slot_of'' member_in'' back_agrees (shows_plan slot_of'')) turned_agrees two.moves (lawful_turned board (plan_of slot_of') law') in
       record {
-        lawful = lawful_turned (turn board) (turned (plan_of slot-of'')) law'';
-        programmes = settled_rules board allowed xs ys members slots st (plan_of slot-of'') slot-of'' member-in'' (shows_plan slot-of'') back_agrees member_len names
+        lawful = lawful_turned (turn board) (turned (plan_of slot_of'')) law'';
+        programmes = settled_rules board allowed xs ys members slots st (plan_of slot_of'') slot_of'' member_in'' (shows_plan slot_of'') back_agrees member_len names
             (two.moves.other (holds_at reaches xs) (at 0 names) one.settled);
-        slots = settled_rules (turn board) (λ s i. allowed i s) ys xs slots members st-turned (turned (plan_of slot-of'')) member-in'' slot-of'' (shows_turned (plan_of slot-of'') slot-of'' member-in'' back_agrees (shows_plan slot-of'')) two.moves.agrees slot_len slot-names two.settled;
+        slots = settled_rules (turn board) (λ s i. allowed i s) ys xs slots members st_turned (turned (plan_of slot_of'')) member_in'' slot_of'' (shows_turned (plan_of slot_of'') slot_of'' member_in'' back_agrees (shows_plan slot_of'')) two.moves.agrees slot_len slot_names two.settled;
       }

@@ -83,7 +83,7 @@ module _ (G : Setting) (slot_of member_in names : List ℕ) (root : ℕ) (ag : A
       far_end : K t ≡ 0
       far_end = from_at i t (omega arith) (λ i0. far_via i i0 (omega arith)) p.exit.present p.last
 
-    module _ (slot_of' member_in' : List ℕ) (root-new : at 0 names root ≡ 0) (a : Kept slot_of member_in q i t slot_of' member_in') where
+    module _ (slot_of' member_in' : List ℕ) (root_new : at 0 names root ≡ 0) (a : Kept slot_of member_in q i t slot_of' member_in') where
       named_end : at 0 names (at 0 member_in t) ≡ 0
       named_end = ⊎_elim (λ h. p.exit.unnamed h) (λ z. ap (at 0 names) z) (cases_zero (at 0 member_in t))
 
@@ -138,8 +138,8 @@ module _ (G : Setting) (slot_of member_in names : List ℕ) (root : ℕ) (ag : A
 pub no_moves : (G : Setting) (slot_of member_in : List ℕ) → Agrees slot_of member_in → Moves G slot_of member_in slot_of member_in
 no_moves G slot_of member_in ag = record { agrees = ag; still = λ u e. refl; lawful = λ Q all h. h; other = λ order other set. set }
 
-pub more_moves : (G : Setting) (slot_of member_in slot_of' member_in' slot-of'' member-in'' : List ℕ) → Moves G slot_of member_in slot_of' member_in' → Moves G slot_of' member_in' slot-of'' member-in'' → Moves G slot_of member_in slot-of'' member-in''
-more_moves G slot_of member_in slot_of' member_in' slot-of'' member-in'' a b = record {
+pub more_moves : (G : Setting) (slot_of member_in slot_of' member_in' slot_of'' member_in'' : List ℕ) → Moves G slot_of member_in slot_of' member_in' → Moves G slot_of' member_in' slot_of'' member_in'' → Moves G slot_of member_in slot_of'' member_in''
+more_moves G slot_of member_in slot_of' member_in' slot_of'' member_in'' a b = record {
   agrees = b.agrees;
   still = λ u e. b.still u e ∙ a.still u e;
   lawful = λ Q all h. b.lawful Q all (a.lawful Q all h);
@@ -152,11 +152,11 @@ clear_moves G slot_of member_in slot_of' member_in' ag clear mv s pl h =
     let s0 = mark_pos G.slots s pl in
     let Q : ℕ → ℕ → Bool = λ x u. at false G.members x || not (at false G.slots u) in
     let was : Lawful Q slot_of = λ x u u0 e. ⊎_elim
-    (λ pl-u. ⊎_elim
-    (λ x0. let b = ag.there x u x0 u0 e in or_left _ _ (ap (at false G.members) (sym b) ∙ clear u pl-u (omega arith)))
+    (λ pl_u. ⊎_elim
+    (λ x0. let b = ag.there x u x0 u0 e in or_left _ _ (ap (at false G.members) (sym b) ∙ clear u pl_u (omega arith)))
     (λ z. absurd (let c : at 0 slot_of x ≡ 0 = ap (at 0 slot_of) z in let w : ⊥ = omega arith in w))
     (cases_zero x))
-    (λ pl-u. or_right _ _ (not_from_false _ pl-u))
+    (λ pl_u. or_right _ _ (not_from_false _ pl_u))
     (cases_Bool (at false G.slots u)) in
     let is = mv.lawful Q (λ x u f p o. or_left _ _ f) was (at 0 member_in' s) s s0 (mv.agrees.back (at 0 member_in' s) s h s0 refl) in
     ⊎_elim (λ e. e) (λ e. absurd (both_ways _ (not-true _ e) pl)) (or_cases (at false G.members (at 0 member_in' s)) (not (at false G.slots s)) is)

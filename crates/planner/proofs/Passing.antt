@@ -50,12 +50,12 @@ cases_zero n = ⊎_elim (λ e. inr e) (λ e. inl (omega arith)) (cases_eq n 0)
 
 -- nobody is named or done
 pub begin : (S : Stage) (slot_of member_in names : ℕ → ℕ) (done : ℕ → Bool) → ((x : ℕ) → names x ≡ 0) → ((x : ℕ) → done x ≡ false) → State S slot_of member_in names done
-begin S slot_of member_in names done no_name no-done = record {
+begin S slot_of member_in names done no_name no_done = record {
   named = λ x h. absurd (let e = no_name x in let z : ⊥ = omega arith in z);
   named_done = λ x h. absurd (let e = no_name x in let z : ⊥ = omega arith in z);
   out_done = λ x h. absurd (let e = no_name x in let z : ⊥ = omega arith in z);
-  itself = λ x f o d. absurd (both_ways (done x) (no-done x) d);
-  order = λ x y d. absurd (both_ways (done x) (no-done x) d);
+  itself = λ x f o d. absurd (both_ways (done x) (no_done x) d);
+  order = λ x y d. absurd (both_ways (done x) (no_done x) d);
 }
 
 -- all free members that are out are done
@@ -153,9 +153,9 @@ module _ (S : Stage) (slot_of member_in names : ℕ → ℕ) (done done' : ℕ �
           (λ e. re.now x (⊎_elim (λ p. absurd (unnamed (subst (λ (y : ℕ). 0 < names y) e p))) (λ z. z) (cases_zero (names x))) (ap reached e ∙ dry.start) ∙ sym e)
           (λ n. let i = st.itself x f o (was_done x n d) in let p = ranked.member x f in re.before x (omega arith) ∙ i)
           (cases_eq x root);
-      order = λ x y d f o d-y. ⊎_elim
-          (λ e. ap (λ z. S.reaches z y) e ∙ ch.highest y f o (was_new y d-y))
-          (λ n. st.order x y (was_done x n d) f o (was_new y d-y))
+      order = λ x y d f o d_y. ⊎_elim
+          (λ e. ap (λ z. S.reaches z y) e ∙ ch.highest y f o (was_new y d_y))
+          (λ n. st.order x y (was_done x n d) f o (was_new y d_y))
           (cases_eq x root);
     }
 
@@ -203,9 +203,9 @@ module _ (S : Stage) (slot_of member_in names : ℕ → ℕ) (done done' : ℕ �
             | inl z ↦ st.itself x f z was
             | inr c ↦ absurd (both_ways (S.reaches x root) (loser_lower ranked x f c.1) (above_root x was))
           ];
-      order = λ x y d f o d-y.
+      order = λ x y d f o d_y.
           let under : S.reaches root y ≡ true = elim (was_out y o) [
-            | inl z ↦ ch.highest y f z (was_new y d-y)
+            | inl z ↦ ch.highest y f z (was_new y d_y)
             | inr c ↦ ranked.total y root f ch.free (loser_lower ranked y f c.1)
           ] in
           ⊎_elim (λ e. ap (λ z. S.reaches z y) e ∙ under) (λ n. ranked.transitive x root y (above_root x (was_done x n d)) under) (cases_eq x root);

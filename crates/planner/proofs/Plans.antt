@@ -18,10 +18,10 @@ pub record Lengths (plan : Held) : Type 0 where
 
 pub plan_lengths : (plan : Plan) → Lengths (held plan)
 plan_lengths plan = record {
-  programmes = omega (arith, plan.programmes.1, plan.programmes_present.ok.0, plan.slot_of.ok.0);
-  slots = omega (arith, plan.slots.1, plan.slots_present.ok.0, plan.programme_in.ok.0);
-  few = omega (arith, plan.programmes.0, plan.slot_of.ok.0);
-  few_slots = omega (arith, plan.slots.0, plan.programme_in.ok.0);
+  programmes = omega (arith, plan.programmes.together, plan.programmes.present.ok.0, plan.programmes.places.ok.0);
+  slots = omega (arith, plan.slots.together, plan.slots.present.ok.0, plan.slots.places.ok.0);
+  few = omega (arith, plan.programmes.few, plan.programmes.places.ok.0);
+  few_slots = omega (arith, plan.slots.few, plan.slots.places.ok.0);
 }
 
 -- a plan with the same attendance has the same lengths
@@ -40,18 +40,22 @@ fit_kept pairs ranking plan plan' a b e fits =
     let d : pairs.slots ≡ length plan'.programme_in = omega (arith, fit.2, len.1) in
     and_from _ _ (eq-eqb _ _ fit.0) (and_from _ _ (eq-eqb _ _ b) (eq-eqb _ _ d))
 
-get-zeros : (n k : ℕ) → ◌≡◌ {A = ℕ} (get_or (replicate n 0) k 0) 0
-get-zeros zero k = refl
-get-zeros (suc n) zero = refl
-get-zeros (suc n) (suc k) = get-zeros n k
+get_zeros : (n k : ℕ) → ◌≡◌ {A = ℕ} (get_or (replicate n 0) k 0) 0
+get_zeros zero k = refl
+get_zeros (suc n) zero = refl
+get_zeros (suc n) (suc k) = get_zeros n k
 
 zero_at : (n k : ℕ) → ◌≡◌ {A = ℕ} (at 0 (replicate n 0) k) 0
 zero_at n zero = refl
-zero_at n (suc k) = get-zeros n k
+zero_at n (suc k) = get_zeros n k
 
 -- a table of zeros names nobody
-pub zeros-at : (xs : List ℕ) (n : ℕ) → xs ≡ replicate n 0 → (k : ℕ) → at 0 xs k ≡ 0
-zeros-at xs n e k = ap (λ (l : List ℕ). at 0 l k) e ∙ zero_at n k
+pub zeros_at : (xs : List ℕ) (n : ℕ) → xs ≡ replicate n 0 → (k : ℕ) → at 0 xs k ≡ 0
+zeros_at xs n e k = ap (λ (l : List ℕ). at 0 l k) e ∙ zero_at n k
+
+-- parts that fit together with a plan do so with one of the same attendance
+pub fits_kept : {P : Type 0} (pairs : Pairs) (xs ys : List P) (plan plan' : Held) → Lengths plan → Lengths plan' → plan'.attendance ≡ plan.attendance → fits pairs xs ys plan ≡ true → fits pairs xs ys plan' ≡ true
+fits_kept pairs xs ys plan plan' a b e h = let len = same_lengths plan plan' a b e in rw (len.0, len.1) h
 
 -- parts that fit together fit on each side
 pub sides_fit : {P : Type 0} (pairs : Pairs) (xs ys : List P) (plan : Held) → fits pairs xs ys plan ≡ true → (side_fits pairs xs plan ≡ true) × (length plan.programme_in ≡ length ys)

@@ -78,11 +78,11 @@ pub record Going (G : Setting) (slot_of member_in slot_of' member_in' names : Li
   pub clear : Clear G member_in'
   pub state : StateOf G slot_of' member_in' names done
 
-pub going_on : (G : Setting) (slot_of member_in slot_of' member_in' : List ℕ) (names : List ℕ) (done : List Bool) (root : ℕ) (slot-of'' member-in'' names'' : List ℕ) (done'' : List Bool)
-    → Going G slot_of member_in slot_of' member_in' names done → Advanced G slot_of' member_in' done root slot-of'' member-in'' names'' done'' → Going G slot_of member_in slot-of'' member-in'' names'' done''
-going_on G slot_of member_in slot_of' member_in' names done root slot-of'' member-in'' names'' done'' g a = record {
-  moves = more_moves G slot_of member_in slot_of' member_in' slot-of'' member-in'' g.moves a.moves;
-  clear = clear_moves G slot_of' member_in' slot-of'' member-in'' g.moves.agrees g.clear a.moves;
+pub going_on : (G : Setting) (slot_of member_in slot_of' member_in' : List ℕ) (names : List ℕ) (done : List Bool) (root : ℕ) (slot_of'' member_in'' names'' : List ℕ) (done'' : List Bool)
+    → Going G slot_of member_in slot_of' member_in' names done → Advanced G slot_of' member_in' done root slot_of'' member_in'' names'' done'' → Going G slot_of member_in slot_of'' member_in'' names'' done''
+going_on G slot_of member_in slot_of' member_in' names done root slot_of'' member_in'' names'' done'' g a = record {
+  moves = more_moves G slot_of member_in slot_of' member_in' slot_of'' member_in'' g.moves a.moves;
+  clear = clear_moves G slot_of' member_in' slot_of'' member_in'' g.moves.agrees g.clear a.moves;
   state = a.state;
 }
 
@@ -100,11 +100,11 @@ none_counted f (suc n) h = omega (arith, none_counted f n h, none_if (f (suc n))
 -- one more is done, and so counted
 pub one_counted : (done done' : List Bool) (root n : ℕ) → 0 < root → root ≤ n → root ≤ length done → at false done root ≡ false → done' ≡ put done root true → count (at false done') n ≡ count (at false done) n + 1
 one_counted done done' root n r0 rn rl new e =
-    let put-done = at false (put done root true) in
-    let step = count-without put-done n root (within_from n root r0 rn) (at-put_same false done root true r0 rl) in
-    let others = count_same (without put-done root) (at false done) n (λ k w. ⊎_elim
-    (λ same. without_same put-done root k same ∙ sym (ap (at false done) same ∙ new))
-    (λ other. without_other put-done root k other ∙ at-put_other false done root true k other)
+    let put_done = at false (put done root true) in
+    let step = count-without put_done n root (within_from n root r0 rn) (at-put_same false done root true r0 rl) in
+    let others = count_same (without put_done root) (at false done) n (λ k w. ⊎_elim
+    (λ same. without_same put_done root k same ∙ sym (ap (at false done) same ∙ new))
+    (λ other. without_other put_done root k other ∙ at-put_other false done root true k other)
     (cases_eq k root)) in
     omega (arith, ap (λ (d : List Bool). count (at false d) n) e)
 

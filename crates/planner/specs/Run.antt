@@ -83,4 +83,4 @@ still_slot allowed members slots slot_of x = cond (may_stand allowed members slo
 
 -- Whom each programme and each slot names.
 abbrev pub names_of : List ℕ → List ℕ → Certificate
-names_of names slot-names = record { programmes = at 0 names; slots = at 0 slot-names }
+names_of names slot_names = record { programmes = at 0 names; slots = at 0 slot_names }

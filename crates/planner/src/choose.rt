@@ -20,19 +20,12 @@ fn is_waiting(present: &[bool], slot_of: &[Num], done: &[bool], member: usize) -
     entry(false, present, member) && entry(0, slot_of, member) == 0 && !entry(false, done, member)
 }
 
-/// The mark of one who waits, or of one who does not.
-fn mark_of(waits: bool) -> u8
-    ensures { result ≡ (if waits then 1 else 0) }
-{
-    if waits { 1 } else { 0 }
-}
-
 /// Marks those who wait.
 fn mark_waiting(present: &[bool], slot_of: &[Num], done: &[bool], marks: &mut [u8])
     ensures { (k : ℕ) → within (length marks.new) k ≡ true → marked marks.new k ≡ waiting present.now slot_of.now done.now k }
 {
-    for i in 0..marks.len() {
-        marks[i] = mark_of(is_waiting(present, slot_of, done, i + 1));
+    for (i, mark) in marks.iter_mut().enumerate() {
+        *mark = u8::from(is_waiting(present, slot_of, done, i + 1));
     }
 }
 
@@ -47,8 +40,5 @@ pub(crate) fn choose<P: Priority>(
     ensures { Choice (holds_at P.Priority.reaches ranking.now) (waiting (held plan.now).attendance.programmes (held plan.now).slot_of done.now) result }
 {
     mark_waiting(plan.programmes_present(), plan.slot_of_table(), done, marks);
-    match highest(ranking, marks) {
-        Some(place) => Some(place as Num),
-        None => None,
-    }
+    highest(ranking, marks).map(|place| place as Num)
 }

@@ -11,5 +11,4 @@ pub mod certificate;
 mod choose;
 mod pass;
 pub mod settle;
-mod tables;
 pub mod workspace;

@@ -9,14 +9,12 @@ ghost use Rattle.matching.specs.Certificate.{Passes};
 ghost use Rattle.matching.specs.Check.{passes as passing};
 ghost use Rattle.matching.specs.Lists.{plan_of, certificate_of};
 ghost use Rattle.plan.specs.Held.{held};
-ghost use Rattle.plan.specs.Parts.{ranked, fit_with, board_of, board_with, whole_refusals};
-ghost use Rattle.search.specs.Outcomes.{side_fits};
+ghost use Rattle.plan.specs.Parts.{ranked, fit_with, board_with, whole_refusals};
 ghost use Rattle.planner.specs.Run.{may_stand, still_slot, AllStand, names_of};
 ghost use Rattle.planner.specs.Settling.{entries};
 
 use crate::certificate::Certificate;
 use crate::pass::run_pass;
-use crate::tables::zeros;
 use crate::workspace::Workspace;
 use plan::Plan;
 use plan::parts::Parts;
@@ -24,7 +22,6 @@ use priority::Priority;
 use refusal::Refusal;
 use refusal::limits::Num;
 use refusal::tables::entry;
-use search::space::Space;
 use source::turned::Turned;
 use source::{PairSource, allows};
 
@@ -42,55 +39,43 @@ fn drop_unlawful<S: PairSource>(source: &S, plan: &mut Plan)
     ensures after { (x : ℕ) → at 0 (held plan.new).slot_of x ≡ still_slot (holds (S.PairSource.pairs source.now)) (held plan.old).attendance.programmes (held plan.old).attendance.slots (held plan.old).slot_of x }
     ensures attendance { (held plan.new).attendance ≡ (held plan.old).attendance }
 {
-    for i in 0..plan.programmes() {
-        let slot = entry(0, plan.slot_of_table(), i + 1);
-        if !may_stay(source, plan, i as Num + 1, slot) {
+    for programme in 1..=plan.programmes() as Num {
+        let slot = entry(0, plan.slot_of_table(), programme as usize);
+        if !may_stay(source, plan, programme, slot) {
             plan.vacate(slot);
         }
     }
 }
 
-/// Both passes: the programmes' first, then the slots' on the turned plan and source. Tells how many
-/// searches they made.
-fn pass_both<S: PairSource, P: Priority>(
-    source: &S,
-    programmes: &[P],
-    slots: &[P],
+/// Both passes: the programmes' first, then the slots' on the turned plan and source. Writes the names into
+/// the certificate, in which nobody names anyone yet, and tells how many searches were made.
+fn pass_both<S: PairSource, P: Priority + Copy>(
+    parts: &Parts<S, P>,
     plan: &mut Plan,
-    programme_names: &mut [Num],
-    slot_names: &mut [Num],
-    done: &mut [bool],
-    waiting: &mut [u8],
-    space: &mut Space,
+    certificate: &mut Certificate,
+    workspace: &mut Workspace,
 ) -> usize
-    requires fit { side_fits (S.PairSource.pairs source.now) programmes.now (held plan.old) ≡ true }
-    requires slots_fit { length (held plan.old).programme_in ≡ length slots.now }
-    requires lens { (length programme_names.old ≡ length programmes.now) × (length slot_names.old ≡ length slots.now) × (length done.old ≡ side) × (length waiting.old ≡ side) }
-    requires unnamed { ((k : ℕ) → at 0 programme_names.old k ≡ 0) × ((k : ℕ) → at 0 slot_names.old k ≡ 0) }
-    requires stand { AllStand (holds (S.PairSource.pairs source.now)) (held plan.old).attendance.programmes (held plan.old).attendance.slots (held plan.old).slot_of }
-    ensures passes { Passes (board_of P.Priority.reaches (S.PairSource.pairs source.now) programmes.now slots.now (held plan.old).attendance) (plan_of (held plan.new).slot_of) (names_of programme_names.new slot_names.new) }
+    requires fit { fit_with S.PairSource.pairs parts.now (held plan.old) ≡ true }
+    requires lens { (length certificate.old.programmes.items ≡ length (ranked parts.now.programmes.now)) × (length certificate.old.slots.items ≡ length (ranked parts.now.slots.now)) }
+    requires unnamed { ((k : ℕ) → at 0 certificate.old.programmes.items k ≡ 0) × ((k : ℕ) → at 0 certificate.old.slots.items k ≡ 0) }
+    requires stand { AllStand (holds (S.PairSource.pairs parts.now.source.now)) (held plan.old).attendance.programmes (held plan.old).attendance.slots (held plan.old).slot_of }
+    ensures passes { Passes (board_with P.Priority.reaches S.PairSource.pairs parts.now (held plan.old)) (plan_of (held plan.new).slot_of) (names_of certificate.new.programmes.items certificate.new.slots.items) }
     ensures attendance { (held plan.new).attendance ≡ (held plan.old).attendance }
-    ensures searches { result ≤ length programmes.now + length slots.now }
+    ensures lens { (length certificate.new.programmes.items ≡ length (ranked parts.now.programmes.now)) × (length certificate.new.slots.items ≡ length (ranked parts.now.slots.now)) }
+    ensures searches { result ≤ length (ranked parts.now.programmes.now) + length (ranked parts.now.slots.now) }
 {
+    let programmes = parts.programmes.as_slice();
+    let slots = parts.slots.as_slice();
     let from_programmes = run_pass(
-        source,
+        parts.source,
         programmes,
         plan,
-        programme_names,
-        done,
-        waiting,
-        space,
+        &mut certificate.programmes,
+        workspace,
     );
     plan.turn();
-    let from_slots = run_pass(
-        &Turned(source),
-        slots,
-        plan,
-        slot_names,
-        done,
-        waiting,
-        space,
-    );
+    let turned = Turned(parts.source);
+    let from_slots = run_pass(&turned, slots, plan, &mut certificate.slots, workspace);
     plan.turn();
     from_programmes + from_slots
 }
@@ -110,19 +95,8 @@ fn renew<S: PairSource, P: Priority + Copy>(
     ensures searches { workspace.new.searches ≤ length (ranked parts.now.programmes.now) + length (ranked parts.now.slots.now) }
 {
     drop_unlawful(parts.source, plan);
-    zeros(&mut certificate.programmes, plan.programmes());
-    zeros(&mut certificate.slots, plan.slots());
-    workspace.searches = pass_both(
-        parts.source,
-        parts.programmes.as_slice(),
-        parts.slots.as_slice(),
-        plan,
-        &mut certificate.programmes,
-        &mut certificate.slots,
-        &mut workspace.done,
-        &mut workspace.waiting,
-        &mut workspace.space,
-    );
+    certificate.clear_names(plan.programmes(), plan.slots());
+    workspace.searches = pass_both(parts, plan, certificate, workspace);
 }
 
 /// Makes the plan a best one for the parts handed in, and writes a certificate that passes with it.

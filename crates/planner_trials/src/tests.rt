@@ -10,8 +10,8 @@ use std::test::Fail;
 /// Three programmes of priorities 3, 1 and 2 for two slots, with those pairs planned.
 fn crowded(heap: Global, planned: &[(Num, Num)]) -> Result<Trial, Fail> {
     let mut trial = Trial::new(heap, &[3, 1, 2], &[1, 1], &[(1, 1), (2, 1), (2, 2), (3, 2)])?;
-    for pair in planned {
-        trial.plan.assign(pair.0, pair.1)?;
+    for &(programme, slot) in planned {
+        trial.plan.assign(programme, slot)?;
     }
     Ok(trial)
 }

@@ -1,6 +1,7 @@
 //! A week to try, with everything that planning takes.
 use grid::Grid;
 use plan::Plan;
+use plan::parts::Parts;
 use planner::certificate::Certificate;
 use planner::settle::settle;
 use planner::workspace::Workspace;
@@ -41,8 +42,8 @@ fn grid_of(
     pairs: &[(usize, usize)],
 ) -> Result<Grid, Fail> {
     let mut grid = Grid::new(heap, programmes, slots)?;
-    for pair in pairs {
-        grid.mark(pair.0, pair.1, true)?;
+    for &(programme, slot) in pairs {
+        grid.mark(programme, slot, true)?;
     }
     Ok(grid)
 }
@@ -70,9 +71,11 @@ impl Trial {
     /// Plans the week, from the plan as it stands.
     pub(crate) fn settle(&mut self) -> Result<(), Refusal> {
         settle(
-            &self.pairs,
-            &Ranking::new(&mut self.programmes),
-            &Ranking::new(&mut self.slots),
+            &Parts {
+                source: &self.pairs,
+                programmes: &Ranking::new(&mut self.programmes),
+                slots: &Ranking::new(&mut self.slots),
+            },
             &mut self.plan,
             &mut self.certificate,
             &mut self.workspace,

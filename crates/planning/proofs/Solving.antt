@@ -13,17 +13,14 @@ use Rattle.matching.specs.Lists.{plan_of, certificate_of}
 use Rattle.plan.specs.Held.{Sides, everyone}
 use Rattle.plan.specs.Parts.{parts_fit, fits, board_of, whole_refusals}
 use Rattle.plan.proofs.Asked.{accepted_whole}
-use Rattle.pages.specs.declared.table_pages.Columns.TheVariants.{One}
-use Rattle.page_writer.specs.PlanPage.{plan_page}
-use Rattle.page_writer.specs.TablePage.{table_page}
+use Rattle.filing.specs.declared.Wanted.{Wanted}
+use Rattle.filing.specs.Filed.{page_of}
 use Rattle.week.specs.Planned.{Planned}
 use Rattle.week.specs.Sheets.{plan_in, certificate_in}
 use Rattle.week.specs.declared.Sheet.{Sheet}
 use Rattle.commands.specs.Judging.{reaches_number}
 use Rattle.commands.proofs.Verdict.{at_lists}
-use Rattle.planning.specs.declared.Wanted.{Wanted}
-use Rattle.planning.specs.declared.Wanted.TheVariants as wanted
-use Rattle.planning.specs.Planning.{Solution, Solves, PageOf, page_of}
+use Rattle.planning.specs.Planning.{Solution, Solves, PageOf, page_for}
 
 -- what a loaded week holds
 module _ (pairs : Pairs) (xs ys : List Number) (sheet filed : Sheet)
@@ -68,13 +65,6 @@ module _ (pairs : Pairs) (xs ys : List Number) (sheet filed : Sheet)
         at_lists (λ (fs gs : List Number). refusal_of r ≡ first_refusal (whole_refusals (parts_fit pairs fs gs))) ex ey
         (a ∙ sym (accepted_whole _ (sym held.fit)) ∙ accepted_whole _ (sym parts))
 
-    page_of_week : text ≡ page_of want solution → PageOf want pairs us vs text
-    page_of_week e = at_lists (λ (fs gs : List Number). PageOf want pairs fs gs text) ex ey (record { solution = solution; solves = solves; written = e })
-
-    pub plan_written : want ≡ wanted.Plan → IfOk r (λ _. text ≡ plan_page pairs.slots (plan_in filed).slot_of) → IfOk r (λ _. PageOf want pairs us vs text)
+    pub page_written : IfOk r (λ _. text ≡ page_of want pairs.slots (plan_in filed).slot_of (certificate_in filed)) → IfOk r (λ _. PageOf want pairs us vs text)
     unfolding solution
-    plan_written w m = IfOk-weaker r _ _ (λ _ e. page_of_week (e ∙ ap (λ v. page_of v solution) (sym w))) m
-
-    pub certificate_written : want ≡ wanted.Certificate → IfOk r (λ _. text ≡ table_page One (certificate_in filed)) → IfOk r (λ _. PageOf want pairs us vs text)
-    unfolding solution
-    certificate_written w m = IfOk-weaker r _ _ (λ _ e. page_of_week (e ∙ ap (λ v. page_of v solution) (sym w))) m
+    page_written m = IfOk-weaker r _ _ (λ _ e. at_lists (λ (fs gs : List Number). PageOf want pairs fs gs text) ex ey (record { solution = solution; solves = solves; written = e })) m

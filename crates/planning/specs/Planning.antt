@@ -1,6 +1,6 @@
 -- What weekplan and weekproof write, from the bytes of the three pages of a week.
-use Rattle.std.specs.Prelude.{◌≡◌, ℕ, ◌+◌, Bool, true, false, List, map, length, is_err, Ok, Err, Result}
-use Rattle.refusal.specs.Refusals.{number_of as number-of-refusal}
+use Rattle.std.specs.Prelude.{◌≡◌, ℕ, ◌+◌, Bool, true, false, List, map, length, Ok, Err, Result}
+use Rattle.refusal.specs.Refusals.{number_of as refusal_number}
 use Rattle.priority.specs.declared.number.Number.{Number}
 use Rattle.source.specs.Pairs.{Pairs}
 use Rattle.matching.specs.Board.{Board, Best}
@@ -8,19 +8,16 @@ use Rattle.matching.specs.Check.{passes}
 use Rattle.matching.specs.Lists.{plan_of, certificate_of}
 use Rattle.plan.specs.Held.{everyone}
 use Rattle.plan.specs.Parts.{parts_fit, board_of}
-use Rattle.pages.specs.declared.table_pages.Columns.TheVariants.{One}
 use Rattle.priority_pages.specs.PriorityPages.{number_of}
 use Rattle.page_writer.specs.declared.answer_line.Declined.{Declined}
 use Rattle.page_writer.specs.declared.answer_line.Declined.TheVariants.{Page, Week}
 use Rattle.page_writer.specs.AnswerLines.{refusal_line}
-use Rattle.page_writer.specs.PlanPage.{plan_page}
-use Rattle.page_writer.specs.TablePage.{table_page}
-use Rattle.page_writer.specs.Texts.{text_of}
-use Rattle.commands.specs.declared.answer.Written.{Written}
+use Rattle.page_writer.specs.declared.PageText.{PageText}
+use Rattle.page_writer.specs.Texts.{texts_of}
+use Rattle.filing.specs.declared.Wanted.{Wanted}
+use Rattle.filing.specs.Filed.{page_of}
 use Rattle.commands.specs.Judging.{reaches_number}
 use Rattle.commands.specs.Pages as pages
-use Rattle.planning.specs.declared.Wanted.{Wanted}
-use Rattle.planning.specs.declared.Wanted.TheVariants.{Plan, Certificate}
 
 -- A planned week: how many slots it has, the slot of each programme, and the entries of the certificate.
 pub record Solution : Type 0 where
@@ -44,15 +41,14 @@ pub record Solves (pairs : Pairs) (xs ys : List Number) (solution : Solution) : 
   pub best : Best (board pairs xs ys) (plan_of solution.slot_of)
 
 -- The page wanted of a planned week: of its plan, or of its certificate.
-abbrev pub page_of : Wanted → Solution → List ℕ
-page_of Plan solution = plan_page solution.slots solution.slot_of
-page_of Certificate solution = table_page One solution.certificate
+abbrev pub page_for : Wanted → Solution → List ℕ
+page_for wanted solution = page_of wanted solution.slots solution.slot_of solution.certificate
 
 -- The text is the page wanted of a solution of the week.
 pub record PageOf (wanted : Wanted) (pairs : Pairs) (xs ys : List Number) (text : List ℕ) : Type 0 where
   pub solution : Solution
   pub solves : Solves pairs xs ys solution
-  pub written : text ≡ page_of wanted solution
+  pub written : text ≡ page_for wanted solution
 
 -- What the three pages come to, where all are read: the week, with its priorities as values of the number kind.
 pub record Read (b1 b2 b3 : List ℕ) (week : pages.Week) (xs ys : List Number) : Type 0 where
@@ -72,20 +68,19 @@ pub record Taken (b1 b2 b3 : List ℕ) (b : Bool) : Type 0 where
 -- not fit together; or else a solution of the week.
 abbrev pub Found : List ℕ → List ℕ → List ℕ → Result Solution Declined → Type 0
 Found b1 b2 b3 (Err (Page fault)) = pages.read_week b1 b2 b3 ≡ Err fault
-Found b1 b2 b3 (Err (Week refusal)) = Taken b1 b2 b3 false × (number-of-refusal refusal ≡ 12)
+Found b1 b2 b3 (Err (Week refusal)) = Taken b1 b2 b3 false × (refusal_number refusal ≡ 12)
 Found b1 b2 b3 (Ok solution) = (taken : Taken b1 b2 b3 true) × Solves taken.week.pairs taken.xs taken.ys solution
 
--- What it writes then: the page wanted, or the line of the refusal.
-abbrev pub text_for : Wanted → Result Solution Declined → List ℕ
-text_for wanted (Ok solution) = page_of wanted solution
-text_for wanted (Err declined) = refusal_line declined
+-- What it writes then: the page wanted, or else the line of the refusal.
+abbrev pub texts_for : Wanted → Result Solution Declined → Result (List ℕ) (List ℕ)
+texts_for wanted (Ok solution) = Ok (page_for wanted solution)
+texts_for wanted (Err declined) = Err (refusal_line declined)
 
--- What a program answers: the text for what it found, and whether that is a refusal.
-pub record Answered (wanted : Wanted) (b1 b2 b3 : List ℕ) (written : Written) : Type 0 where
+-- What a program answers: the text for what it found.
+pub record Answered (wanted : Wanted) (b1 b2 b3 : List ℕ) (answer : Result PageText PageText) : Type 0 where
   pub found : Result Solution Declined
   pub holds : Found b1 b2 b3 found
-  pub text : text_of written.text ≡ text_for wanted found
-  pub refused : written.refused ≡ is_err found
+  pub told : texts_of answer ≡ texts_for wanted found
 
 -- Before the line of a refusal is written: the text is the page wanted, or there is such a refusal.
 abbrev pub Came : Wanted → List ℕ → List ℕ → List ℕ → List ℕ → Result (Unit {0}) Declined → Type 0

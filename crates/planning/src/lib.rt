@@ -10,33 +10,23 @@ ghost use Rattle.source.specs.Makes.{make_refusal_of};
 ghost use Rattle.grid.specs.GridPairs.{grid_pairs};
 ghost use Rattle.plan.specs.Parts.{parts_fit, whole_refusals};
 ghost use Rattle.page_writer.specs.Texts.{text_of};
-ghost use Rattle.planning.specs.declared.Wanted.TheVariants.{Plan, Certificate};
 ghost use Rattle.planning.specs.Planning.{PageOf, Came, Answered};
 
-use commands::answer::Written;
 use commands::week_pages::{WeekBytes, WeekRead, WeekRoom, read_week};
-use filing::{write_certificate_page, write_plan_page};
+use filing::{Wanted, write_page};
 use page_writer::PageText;
 use page_writer::answer_line::Declined;
+use plan::parts::Parts;
 use priority::ranking::Ranking;
 use refusal::{MakeError, Refusal};
 use std::alloc::Global;
 use week::Week;
 
-/// The page that is wanted of a planned week.
-#[derive(Clone, Copy)]
-pub(crate) enum Wanted {
-    /// The page of its plan.
-    Plan,
-    /// The page of its certificate.
-    Certificate,
-}
-
 /// Loads the week that was read, hands it over, and writes the page wanted. Refuses 12 where the counts
 /// of the pages do not fit together.
 fn write_planned(
     read: WeekRead,
-    week: Week,
+    mut week: Week,
     wanted: Wanted,
     text: &mut PageText,
 ) -> Result<(), Refusal>
@@ -50,13 +40,13 @@ fn write_planned(
     } = read;
     let programmes = Ranking::new(&mut programmes);
     let slots = Ranking::new(&mut slots);
-    let mut week = week;
-    week.load(&pairs, &programmes, &slots)?;
-    let filed = week.hand_over();
-    match wanted {
-        Wanted::Plan => write_plan_page(&filed, &pairs, &programmes, &slots, text),
-        Wanted::Certificate => write_certificate_page(&filed, &pairs, &programmes, &slots, text),
-    }
+    let parts = Parts {
+        source: &pairs,
+        programmes: &programmes,
+        slots: &slots,
+    };
+    week.load(&parts)?;
+    write_page(&week.hand_over(), &parts, wanted, text)
 }
 
 /// The room that planning a week takes, made before its pages are read.
@@ -72,12 +62,11 @@ impl PlanningRoom {
     pub fn new(heap: Global) -> Result<PlanningRoom, MakeError>
         ensures answer { make_refusal_of result ≡ None }
     {
-        let pages = WeekRoom::new(heap)?;
-        let text = PageText::new(heap)?;
-        match Week::new(heap) {
-            Ok(week) => Ok(PlanningRoom { pages, week, text }),
-            Err(_) => Err(MakeError::NoMemory),
-        }
+        Ok(PlanningRoom {
+            pages: WeekRoom::new(heap)?,
+            week: Week::new(heap)?,
+            text: PageText::new(heap)?,
+        })
     }
 }
 
@@ -91,18 +80,14 @@ fn plan_pages(
 ) -> Result<(), Declined>
     ensures { Came wanted bytes.now.pairs.now bytes.now.programmes.now bytes.now.slots.now (text_of text.new) result }
 {
-    let read = match read_week(pages, bytes) {
-        Ok(read) => read,
-        Err(fault) => return Err(Declined::Page(fault)),
-    };
-    match write_planned(read, week, wanted, text) {
-        Ok(()) => Ok(()),
-        Err(refusal) => Err(Declined::Week(refusal)),
-    }
+    let read = read_week(pages, bytes)?;
+    write_planned(read, week, wanted, text)?;
+    Ok(())
 }
 
-/// The text for the page wanted: the page, or the line of the refusal.
-fn answer(room: PlanningRoom, bytes: &WeekBytes, wanted: Wanted) -> Written
+/// What a program writes: the page wanted of a best plan of the week, or else the line of a refusal. It
+/// wants no memory.
+pub fn answer(room: PlanningRoom, bytes: &WeekBytes, wanted: Wanted) -> Result<PageText, PageText>
     ensures { Answered wanted bytes.now.pairs.now bytes.now.programmes.now bytes.now.slots.now result }
 {
     let PlanningRoom {
@@ -111,29 +96,7 @@ fn answer(room: PlanningRoom, bytes: &WeekBytes, wanted: Wanted) -> Written
         mut text,
     } = room;
     let Err(declined) = plan_pages(pages, week, bytes, wanted, &mut text) else {
-        return Written {
-            text,
-            refused: false,
-        };
+        return Ok(text);
     };
-    text.write_refusal(declined);
-    Written {
-        text,
-        refused: true,
-    }
-}
-
-/// What `weekplan` writes for the three pages: the page of a best plan, or the line of the refusal.
-pub fn plan_answer(room: PlanningRoom, bytes: &WeekBytes) -> Written
-    ensures { Answered Plan bytes.now.pairs.now bytes.now.programmes.now bytes.now.slots.now result }
-{
-    answer(room, bytes, Wanted::Plan)
-}
-
-/// What `weekproof` writes for the three pages: the page of a certificate that passes with a best plan,
-/// or the line of the refusal.
-pub fn proof_answer(room: PlanningRoom, bytes: &WeekBytes) -> Written
-    ensures { Answered Certificate bytes.now.pairs.now bytes.now.programmes.now bytes.now.slots.now result }
-{
-    answer(room, bytes, Wanted::Certificate)
+    Err(text.refusal(declined))
 }

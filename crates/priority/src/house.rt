@@ -3,7 +3,7 @@
 ghost use Rattle.std.specs.Prelude.{◌≡◌, ◌≤◌, IfOk};
 ghost use Rattle.refusal.specs.Refusals.{refusal_of, first_refusal};
 ghost use Rattle.priority.specs.Kinds.{house_reaches, house_refusals};
-ghost use Rattle.std.proofs.Common.{rules, arith};
+ghost use Rattle.std.proofs.Common.{rules};
 
 use crate::Priority;
 use refusal::Refusal;
@@ -50,9 +50,9 @@ impl House {
 impl Priority for House {
     ghost reaches = { λ a b. house_reaches a.class a.weeks b.class b.weeks };
 
-    ghost total = { first_of (Prim.search rules, Prim.grind (arith, Self.row.coded.inj)) };
+    ghost total = { Prim.search rules };
 
-    ghost transitive = { first_of (Prim.search rules, Prim.grind (arith, Self.row.coded.inj)) };
+    ghost transitive = { Prim.search rules };
 
     fn at_least(&self, other: &House) -> bool {
         self.class < other.class || (self.class == other.class && self.weeks >= other.weeks)

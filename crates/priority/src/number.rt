@@ -2,7 +2,7 @@
 ghost use Rattle.std.specs.Prelude.{◌≡◌, ◌≤◌, IfOk};
 ghost use Rattle.refusal.specs.Refusals.{refusal_of, first_refusal};
 ghost use Rattle.priority.specs.Kinds.{number_reaches, number_refusals};
-ghost use Rattle.std.proofs.Common.{rules, arith};
+ghost use Rattle.std.proofs.Common.{rules};
 
 use crate::Priority;
 use refusal::Refusal;
@@ -37,9 +37,9 @@ impl Number {
 impl Priority for Number {
     ghost reaches = { λ a b. number_reaches a.value b.value };
 
-    ghost total = { first_of (Prim.search rules, Prim.grind (arith, Self.row.coded.inj)) };
+    ghost total = { Prim.search rules };
 
-    ghost transitive = { first_of (Prim.search rules, Prim.grind (arith, Self.row.coded.inj)) };
+    ghost transitive = { Prim.search rules };
 
     fn at_least(&self, other: &Number) -> bool {
         self.value <= other.value

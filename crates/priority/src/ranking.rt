@@ -2,7 +2,7 @@
 ghost use Rattle.std.specs.Prelude.{◌≡◌, length, OnErr, OnOk};
 ghost use Rattle.refusal.specs.Refusals.{refusal_of, first_refusal};
 ghost use Rattle.refusal.specs.Tables.{item, put};
-ghost use Rattle.priority.specs.Places.{place_refusals, highest as highest-of};
+ghost use Rattle.priority.specs.Places.{place_refusals, highest as highest_of};
 
 use crate::Priority;
 use crate::places::{highest, priority_at, set_priority};
@@ -56,7 +56,7 @@ impl<'a, P: Priority + Copy> Ranking<'a, P> {
 
     /// The lowest number among the marked places that are at least as high as every marked place.
     pub fn highest(&self, marks: &[u8]) -> Option<usize>
-        ensures { result ≡ highest-of P.Priority.reaches self.now.table.now marks.now }
+        ensures { result ≡ highest_of P.Priority.reaches self.now.table.now marks.now }
     {
         highest(self.table, marks)
     }

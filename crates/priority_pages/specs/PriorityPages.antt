@@ -33,6 +33,10 @@ rows_of row (suc n) = rows_of row n ++ row (suc n) ∷ []
 abbrev pub all_rows : {X : Type 0} → (X → Bool) → (ℕ → X) → ℕ → Result (List X) Refusal
 all_rows test row n = cond (all (λ i. test (row i)) n) (Ok (rows_of row n)) (Err no.ValueRange)
 
+-- The rows of a kind, each by the numbers of its first and its second column: n of the first, then n of the second.
+abbrev pub kind_rows : {X : Type 0} → (X → Bool) → (ℕ → ℕ → X) → List ℕ → ℕ → Result (List X) Refusal
+kind_rows test row values n = all_rows test (λ i. row (at 0 values i) (at 0 values (n + i))) n
+
 -- Nothing is refused.
 abbrev pub accepted : Option ℕ → Bool
 accepted None = true
@@ -44,7 +48,7 @@ is_number v = accepted (first_refusal (number_refusals v))
 
 -- The number kind: n numbers in one column.
 abbrev pub number_rows : List ℕ → ℕ → Result (List ℕ) Refusal
-number_rows values n = all_rows is_number (at 0 values) n
+number_rows = kind_rows is_number (λ a b. a)
 
 -- A class and weeks make a priority of the house kind.
 abbrev pub is_house : ℕ × ℕ → Bool
@@ -52,7 +56,7 @@ is_house p = accepted (first_refusal (house_refusals p.0 p.1))
 
 -- The house kind: n classes, then n weeks.
 abbrev pub house_rows : List ℕ → ℕ → Result (List (ℕ × ℕ)) Refusal
-house_rows values n = all_rows is_house (λ i. (at 0 values i, at 0 values (n + i))) n
+house_rows = kind_rows is_house (λ a b. (a, b))
 
 -- The priorities of a page: the page's own fault, or 11 with line 0 for a number outside the kind.
 abbrev pub read_priorities : {X : Type 0} → (List ℕ → ℕ → Result (List X) Refusal) → Columns → ℕ → Page → List ℕ → Result (List X) Fault

@@ -2,6 +2,6 @@
 //! house kind, classes first and then weeks. A number outside its kind gives 11 with line 0.
 #![tactic(auto)]
 
-pub mod houses;
-pub mod numbers;
+pub mod kinds;
+pub mod reading;
 pub mod room;

@@ -20,9 +20,7 @@ impl<P> PriorityRoom<P> {
     pub fn new(heap: Global) -> Result<PriorityRoom<P>, MakeError>
         ensures answer { make_refusal_of result ≡ None }
     {
-        match Vec::with_capacity(heap, 2 * SIDE) {
-            Ok(priorities) => Ok(PriorityRoom { priorities }),
-            Err(_) => Err(MakeError::NoMemory),
-        }
+        let priorities = Vec::with_capacity(heap, 2 * SIDE)?;
+        Ok(PriorityRoom { priorities })
     }
 }

@@ -26,10 +26,7 @@ pub fn open_station(
     ensures answer { make_refusal_of result ≡ first_refusal (count_refusals (vec_len programmes) (vec_len slots)) }
     ensures pairs { IfOk result (λ station. station_pairs station ≡ fitting_open programmes.items slots.items shut.items) }
 {
-    let fit = match Fit::new(programmes, slots) {
-        Ok(fit) => fit,
-        Err(refusal) => return Err(MakeError::Refused(refusal)),
-    };
+    let fit = Fit::new(programmes, slots)?;
     Bars::new(heap, ShutHours::new(fit, shut))
 }
 

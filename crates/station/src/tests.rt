@@ -7,7 +7,7 @@ use bars::Bars;
 use fit::{Programme, Slot};
 use grid::Grid;
 use refusal::Refusal;
-use refusal::limits::Num;
+use refusal::limits::{Num, is_within};
 use shut_hours::ShutHours;
 use source::turned::Turned;
 use source::{OpenSource, PairSource};
@@ -23,19 +23,15 @@ struct Wide;
 fn is_wide(programme: usize, slot: usize) -> bool
     ensures { result ≡ holds (record { programmes = 250; slots = 250; allowed = λ i s. true }) programme slot }
 {
-    1 <= programme && programme <= 250 && 1 <= slot && slot <= 250
+    is_within(250, programme) && is_within(250, slot)
 }
 
 /// The first slot of a programme, or the first programme of a slot.
 fn first_wide(number: Num, from: usize) -> Option<Num>
     ensures { result ≡ first_slot (record { programmes = 250; slots = 250; allowed = λ i s. true }) number from }
 {
-    for other in from..=250 {
-        if is_wide(number as usize, other) {
-            return Some(other as Num);
-        }
-    }
-    None
+    let from = Num::try_from(from).ok()?;
+    (from..=250).find(|other| is_wide(number as usize, *other as usize))
 }
 
 impl PairSource for Wide {
@@ -58,25 +54,17 @@ impl PairSource for Wide {
     }
 }
 
-/// The number of an edit's refusal, or 0.
-fn number_of(answer: Result<(), Refusal>) -> u8 {
-    match answer {
-        Ok(()) => 0,
-        Err(refusal) => refusal.number(),
-    }
-}
-
 /// Bars (1, 1), which is allowed, twice, lifts it twice, and tries a pair beyond the counts.
 fn bar_and_lift<S: OpenSource>(rt: &impl Abort, source: &mut S) {
     assert_eq!(rt; source.first_slot(1, 0), Some(1));
-    assert_eq!(rt; number_of(source.bar(1, 1)), 0);
-    assert_eq!(rt; number_of(source.bar(1, 1)), 16);
+    assert_eq!(rt; source.bar(1, 1), Ok(()));
+    assert_eq!(rt; source.bar(1, 1), Err(Refusal::NotAllowed));
     assert!(rt; source.first_slot(1, 0) != Some(1));
-    assert_eq!(rt; number_of(source.lift(1, 1)), 0);
-    assert_eq!(rt; number_of(source.lift(1, 1)), 17);
+    assert_eq!(rt; source.lift(1, 1), Ok(()));
+    assert_eq!(rt; source.lift(1, 1), Err(Refusal::AlreadyAllowed));
     assert_eq!(rt; source.first_programme(1, 0), Some(1));
-    assert_eq!(rt; number_of(source.lift(1, 0)), 10);
-    assert_eq!(rt; number_of(source.bar(255, 1)), 10);
+    assert_eq!(rt; source.lift(1, 0), Err(Refusal::UnknownNumber));
+    assert_eq!(rt; source.bar(255, 1), Err(Refusal::UnknownNumber));
 }
 
 /// A pile of two late programmes, of 60 and 90 minutes, and slots of 60 minutes from 1,259, 1,260 and 1,300, the last one shut.
@@ -118,13 +106,13 @@ fn numbers_out_of_range(rt: HostRuntime) {
 #[test]
 fn open_sources_bar_and_lift(rt: HostRuntime) -> Result<(), Fail> {
     let mut grid = Grid::new(rt.alloc(), 2, 3)?;
-    assert_eq!(rt; number_of(grid.lift(1, 1)), 0);
+    assert_eq!(rt; grid.lift(1, 1), Ok(()));
     bar_and_lift(&rt, &mut grid);
     let mut turned = Turned(grid);
     bar_and_lift(&rt, &mut turned);
     let mut bars = Bars::new(rt.alloc(), turned)?;
     bar_and_lift(&rt, &mut bars);
-    assert_eq!(rt; number_of(bars.lift(1, 2)), 18);
+    assert_eq!(rt; bars.lift(1, 2), Err(Refusal::NotPossible));
     bar_and_lift(&rt, &mut Turned(bars));
     Ok(())
 }
@@ -132,7 +120,7 @@ fn open_sources_bar_and_lift(rt: HostRuntime) -> Result<(), Fail> {
 #[test]
 fn turned_twice_asks_like_the_first(rt: HostRuntime) -> Result<(), Fail> {
     let mut grid = Grid::new(rt.alloc(), 2, 3)?;
-    assert_eq!(rt; number_of(grid.lift(2, 3)), 0);
+    assert_eq!(rt; grid.lift(2, 3), Ok(()));
     let slot = grid.first_slot(2, 0);
     let programme = grid.first_programme(3, 0);
     let twice = Turned(Turned(grid));
@@ -154,7 +142,7 @@ fn layers_cut_to_200(rt: HostRuntime) -> Result<(), Fail> {
     assert_eq!(rt; bars.first_slot(200, 201), None);
     assert_eq!(rt; bars.first_slot(201, 0), None);
     assert_eq!(rt; bars.first_programme(201, 0), None);
-    assert_eq!(rt; number_of(bars.bar(200, 200)), 0);
-    assert_eq!(rt; number_of(bars.bar(200, 201)), 10);
+    assert_eq!(rt; bars.bar(200, 200), Ok(()));
+    assert_eq!(rt; bars.bar(200, 201), Err(Refusal::UnknownNumber));
     Ok(())
 }

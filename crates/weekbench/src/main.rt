@@ -28,13 +28,8 @@ fn tell_use(rt: &HostRuntime) -> anyhow::Result<()> {
 }
 
 fn main(rt: HostRuntime) -> anyhow::Result<()> {
-    match env::args(&rt)?.nth(1) {
-        Some(word) => {
-            if word.as_str() == "run" {
-                return measure_all(&rt);
-            }
-            tell_use(&rt)
-        }
-        None => tell_use(&rt),
+    match env::args(&rt)?.nth(1).as_deref() {
+        Some("run") => measure_all(&rt),
+        _ => tell_use(&rt),
     }
 }

@@ -4,6 +4,7 @@ use crate::questions::Questions;
 use crate::week::{Kind, Week};
 use anyhow::anyhow;
 use plan::Plan;
+use plan::parts::Parts;
 use planner::certificate::Certificate;
 use planner::settle::settle;
 use planner::workspace::Workspace;
@@ -25,13 +26,10 @@ struct Taken {
 
 /// How many programmes the plan places.
 fn count_placed(plan: &Plan) -> usize {
-    let mut placed = 0usize;
-    for slot in plan.slot_of_table() {
-        if *slot != 0 {
-            placed = placed.saturating_add(1);
-        }
-    }
-    placed
+    plan.slot_of_table()
+        .iter()
+        .filter(|&&slot| slot != 0)
+        .count()
 }
 
 /// Plans the week once, from the empty plan.
@@ -47,9 +45,11 @@ fn plan_once(rt: &HostRuntime, week: &mut Week) -> anyhow::Result<Taken> {
     let slots = Ranking::new(&mut week.slots);
     let start = Instant::now(rt)?;
     let settled = settle(
-        &source,
-        &programmes,
-        &slots,
+        &Parts {
+            source: &source,
+            programmes: &programmes,
+            slots: &slots,
+        },
         &mut plan,
         &mut certificate,
         &mut workspace,
@@ -107,7 +107,8 @@ fn measure_kind(rt: &HostRuntime, draws: &mut Draws, kind: Kind) -> anyhow::Resu
 pub(crate) fn measure_all(rt: &HostRuntime) -> anyhow::Result<()> {
     let mut draws = Draws::new(SEED);
     println!(rt; "side  kind      pairs  questions  searches  planned    time")?;
-    measure_kind(rt, &mut draws, Kind::Dense)?;
-    measure_kind(rt, &mut draws, Kind::Sparse)?;
-    measure_kind(rt, &mut draws, Kind::Crowded)
+    for kind in [Kind::Dense, Kind::Sparse, Kind::Crowded] {
+        measure_kind(rt, &mut draws, kind)?;
+    }
+    Ok(())
 }

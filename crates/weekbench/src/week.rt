@@ -33,9 +33,8 @@ impl Kind {
     /// Of as many draws as there are slots, how many allow a pair.
     fn share(self, side: u8) -> u8 {
         match self {
-            Kind::Dense => side / 2,
+            Kind::Dense | Kind::Crowded => side / 2,
             Kind::Sparse => 4,
-            Kind::Crowded => side / 2,
         }
     }
 
@@ -44,8 +43,7 @@ impl Kind {
         ensures { result ≤ side }
     {
         match self {
-            Kind::Dense => side,
-            Kind::Sparse => side,
+            Kind::Dense | Kind::Sparse => side,
             Kind::Crowded => side / 2,
         }
     }
@@ -82,11 +80,9 @@ impl Week {
 
     /// How many pairs are allowed.
     pub(crate) fn allowed(&self) -> usize {
-        let mut allowed = 0usize;
-        for programme in 1..=self.pairs.programmes() {
-            allowed = allowed.saturating_add(count_slots(&self.pairs, programme));
-        }
-        allowed
+        (1..=self.pairs.programmes())
+            .map(|programme| count_slots(&self.pairs, programme))
+            .fold(0usize, usize::saturating_add)
     }
 }
 

@@ -6,8 +6,9 @@
 #![tactic(auto)]
 
 use anyhow::anyhow;
-use folder::{WeekFiles, folder_argument, write_text};
-use planning::{PlanningRoom, plan_answer};
+use filing::Wanted;
+use folder::{WeekFiles, folder_argument, write_answer};
+use planning::{PlanningRoom, answer};
 
 fn main(rt: HostRuntime) -> anyhow::Result<()> {
     let folder = folder_argument(&rt)?;
@@ -15,6 +16,5 @@ fn main(rt: HostRuntime) -> anyhow::Result<()> {
         return Err(anyhow!("no memory"));
     };
     let files = WeekFiles::read(&rt, folder.as_str())?;
-    let written = plan_answer(room, &files.bytes());
-    write_text(&rt, &written)
+    write_answer(&rt, &answer(room, &files.bytes(), Wanted::Plan))
 }

@@ -4,8 +4,8 @@ use Rattle.station.proofs.open_station.Goals as goal
 
 pub returns : goal.returns
 returns c =
-    let fit = c.in-Ok.fit in
-    let told = c.in-Ok.ensures in
+    let fit = c.in_ok-fit.fit in
+    let told = c.in_ok-fit.ensures in
     record {
       answer = c.new-3.ensures.answer ∙ told.answer;
       pairs = pile_made c.new-3.result c.new-2.result fit (vec_items c.args.programmes) (vec_items c.args.slots) (vec_items c.args.shut)

@@ -1,4 +1,4 @@
-use Rattle.std.proofs.Common.{◌≤◌, length, vec_items, ◌∙◌, rules, arith}
+use Rattle.std.proofs.Common.{◌≤◌, length, vec_items, ◌∙◌, rules}
 use Rattle.fit.proofs.ListedPairs.{fits_read}
 use Rattle.fit.proofs.Fit.is_allowed.Goals as goal
 

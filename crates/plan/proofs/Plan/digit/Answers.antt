@@ -1,13 +1,6 @@
-use Rattle.plan.specs.Held.{held}
-use Rattle.plan.specs.Parts.{ranked}
-use Rattle.plan.proofs.Asked.{accepted_whole, tell_digit}
+use Rattle.std.proofs.Common.{ℕ, ◌+◌, rules, ap}
+use Rattle.priority.specs.Order.{level}
 use Rattle.plan.proofs.Plan.digit.Goals as goal
 
-pub returns : goal.returns
-returns g c =
-    let v = c.args.self.now in
-    let ok = c.if-not-fits.ensures in
-    record {
-      answer = accepted_whole _ ok;
-      told = tell_digit (g.S.PairSource.pairs c.args.parts.now.source.now) (ranked c.args.parts.now.programmes.now) (ranked c.args.parts.now.slots.now) (held v) ok g.P.Priority.reaches v.there v.back c.args.priority.now _ c.count_sides-placed.ensures.placed c.count_sides-placed.ensures.filled;
-    }
+pub returns-clause-told : goal.returns-clause-told
+returns-clause-told g c = ap (λ (p : ℕ × ℕ). p.0 + p.1) (c.in_ok-placed.ensures.told (level g.P.Priority.reaches) c.args.priority.now (λ own told k. search rules))

@@ -1,13 +1,5 @@
-use Rattle.plan.specs.Held.{held}
-use Rattle.plan.specs.Parts.{ranked}
-use Rattle.plan.proofs.Asked.{accepted_whole, tell_tally}
+use Rattle.std.proofs.Common.{rules}
 use Rattle.plan.proofs.Plan.tally.Goals as goal
 
-pub returns : goal.returns
-returns g c =
-    let v = c.args.self.now in
-    let ok = c.if-not-fits.ensures in
-    record {
-      answer = accepted_whole _ ok;
-      told = tell_tally (g.S.PairSource.pairs c.args.parts.now.source.now) (ranked c.args.parts.now.programmes.now) (ranked c.args.parts.now.slots.now) (held v) ok g.P.Priority.reaches v.there v.back c.args.priority.now _ c.count_sides.ensures.placed c.count_sides.ensures.filled;
-    }
+pub returns-clause-told : goal.returns-clause-told
+returns-clause-told g c = c.count_sides.ensures.told g.P.Priority.reaches c.args.priority.now (λ own told k. search rules)

@@ -11,7 +11,7 @@ pub find-requires-clause-entries : goal.find-requires-clause-entries
 find-requires-clause-entries g c =
     let plan = c.args.plan.now in
     let fit = fit_parts (g.S.PairSource.pairs c.args.source.now) c.args.ranking.now (held plan) (sym c.fits.ensures ∙ c.if-not-fits.false) in
-    entries_fit plan _ _ c.programme_in_table.ensures (omega (arith, plan.programmes.0, c.args.space.now.len))
+    entries_fit plan _ _ c.programme_in_table.ensures (omega (arith, plan.programmes.few, plan.programmes.places.ok.0, c.args.space.now.len))
 
 pub flip-requires : goal.flip-requires
 flip-requires g c =
