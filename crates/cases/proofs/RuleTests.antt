@@ -1,14 +1,10 @@
 -- The three tests together are the test of `matching`.
-use Rattle.std.proofs.Common.{◌≡◌, ℕ, zero, suc, Bool, true, false, not, ◌&&◌, sym, refl, ap, ◌∙◌}
+use Rattle.std.proofs.Common.{◌≡◌, ℕ, zero, suc, Bool, true, false, not, ◌&&◌, refl, ap, ◌∙◌}
 use Rattle.refusal.specs.Counting.{all, ◌implies◌}
 use Rattle.matching.specs.Board.{Board, Plan, size, free, placed}
 use Rattle.matching.specs.Certificate.{at_least}
 use Rattle.matching.specs.Check.{unplaced_names_itself, slot_blocked, naming_right}
 use Rattle.cases.specs.RuleTests.{names_someone, named_rightly, RulesAreThree}
-
-and_assoc : (a b c : Bool) → ((a && b) && c) ≡ (a && (b && c))
-and_assoc true b c = refl
-and_assoc false b c = refl
 
 -- four tests, the two in the middle exchanged
 and_exchange : (a b c d : Bool) → ((a && b) && (c && d)) ≡ ((a && c) && (b && d))
@@ -17,9 +13,13 @@ and_exchange true false true d = refl
 and_exchange true false false d = refl
 and_exchange false b c d = refl
 
-implies_and : (a b c : Bool) → (a implies (b && c)) ≡ ((a implies b) && (a implies c))
-implies_and true b c = refl
-implies_and false b c = refl
+-- the parts of rules 2 and 3, of one programme: who names someone, and what is asked of them
+naming_parts : (names present present_named unplaced high blocked : Bool) → (names implies (present && (present_named && (unplaced && (high && blocked))))) ≡ ((names implies (present && (present_named && (unplaced && high)))) && (names implies blocked))
+naming_parts false a b c d e = refl
+naming_parts true false b c d e = refl
+naming_parts true true false c d e = refl
+naming_parts true true true false d e = refl
+naming_parts true true true true d e = refl
 
 -- two tests for all numbers together are each for all
 all_and : (h f g : ℕ → Bool) (n : ℕ) → ((i : ℕ) → h i ≡ (f i && g i)) → all h n ≡ (all f n && all g n)
@@ -39,14 +39,8 @@ module _ {P : Type 0} {reaches : P → P → Bool} (board : Board reaches) (plan
 
   naming_apart : (i : ℕ) → naming_right board plan names i ≡ (two i && three i)
   naming_apart i =
-      let blocked = all (slot_blocked board plan names i) (size board.slots) in
-      ap (λ b. names_someone board plan names i implies b)
-      (sym
-      (and_assoc (free board i) _ blocked
-      ∙ ap (λ b. free board i && b)
-      (and_assoc (free board (names i)) _ blocked
-      ∙ ap (λ b. free board (names i) && b) (and_assoc (not (placed board plan (names i))) (at_least board i (names i)) blocked))))
-      ∙ implies_and (names_someone board plan names i) (named_rightly board plan names i) blocked
+      naming_parts (names_someone board plan names i) (free board i) (free board (names i)) (not (placed board plan (names i))) (at_least board i (names i))
+      (all (slot_blocked board plan names i) (size board.slots))
 
 pub rules_are_three : {P : Type 0} {reaches : P → P → Bool} → RulesAreThree reaches
 rules_are_three board plan names =

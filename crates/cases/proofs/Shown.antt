@@ -1,11 +1,10 @@
 -- The cases hold: by computation, and by the theorem that a plan that passes is best.
 use Rattle.std.proofs.Common.{◌≡◌, ℕ, ◌≤◌, Bool, true, false, ◌&&◌, eqb, List, [], ◌∷◌, length, sym, refl, subst, ⊎_elim, true≢false, arith}
-use Rattle.std.proofs.lemmas.Bool.{and_parts, or_cases, eqb-true}
+use Rattle.std.proofs.lemmas.Bool.{and_parts, or_cases, eqb-true, false_from_ne_true}
 use Rattle.refusal.specs.Counting.{within}
 use Rattle.priority.specs.declared.number.Number.{Number}
 use Rattle.matching.specs.Check.{TestedIsBest}
 use Rattle.matching.specs.Lists.{certificate_of}
-use Rattle.matching.proofs.Soundness.{false_if_not}
 use Rattle.pages.specs.PageLaws.{listed}
 use Rattle.desk.specs.Ledger.{Ledger, board, new_ledger}
 use Rattle.cases.specs.Weeks.{number, by_number, passes_with, IsBest, week, its_plan, its_certificate, other_plan, barred_week, lifted_week, two_slots}
@@ -64,7 +63,7 @@ module _ (tested_is_best : TestedIsBest by_number) where
   other_plan_not_best is-best = let few : 2 ≤ 1 = is-best.programmes (number 2 tt) (listed its_plan) its_plan_best.lawful in omega arith
 
   never_passes : (entries : List ℕ) → passes_with week other_plan entries ≡ false
-  never_passes entries = false_if_not (passes_with week other_plan entries) (λ passing. other_plan_not_best (best week other_plan entries refl passing))
+  never_passes entries = false_from_ne_true (passes_with week other_plan entries) (λ passing. other_plan_not_best (best week other_plan entries refl passing))
 
   second_slot_best : IsBest two_slots ((1, 2) ∷ [])
   second_slot_best = best two_slots ((1, 2) ∷ []) (0 ∷ 1 ∷ 1 ∷ []) refl refl

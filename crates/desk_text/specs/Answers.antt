@@ -1,7 +1,10 @@
 -- The lines that the operator is told.
 use Rattle.std.specs.Prelude.{ℕ, cond, List, ◌++◌, Some, None, codes, decimal, Option}
 use Rattle.std.specs.List.{flat_map}
+use Rattle.refusal.specs.Refusals.{number_of}
 use Rattle.desk.specs.Told.{Told, done, slot, programme, digit, tally, certificate, verdict, page, refused, not_offered}
+use Rattle.desk_text.specs.declared.commands.Unread.{Unread}
+use Rattle.desk_text.specs.declared.commands.Unread.TheVariants as unread
 
 -- A word and a number.
 abbrev pub numbered : List ℕ → ℕ → List ℕ
@@ -36,3 +39,8 @@ answer_line (verdict passed) = cond passed (codes "accepted") (codes "rejected")
 answer_line (page text) = codes "page"
 answer_line (refused n) = numbered (codes "refused") n
 answer_line not_offered = codes "not offered"
+
+-- What is told for a line that gives no command.
+abbrev pub unread_line : Unread → List ℕ
+unread_line (unread.Refused refusal) = numbered (codes "refused") (number_of refusal)
+unread_line unread.NotUnderstood = codes "not understood"

@@ -4,8 +4,8 @@ use Rattle.std.specs.Global.{Vec}
 use Rattle.priority.specs.declared.number.Number.{Number}
 use Rattle.desk.specs.declared.calls.Call.{Call}
 use Rattle.desk.specs.declared.calls.Call.TheVariants.{Edit, Ask, Write, HandOver, Reopen}
-use Rattle.desk.specs.declared.calls.Wanted.{Wanted}
-use Rattle.desk.specs.declared.calls.Wanted.TheVariants.{Plan, Certificate}
+use Rattle.filing.specs.declared.Wanted.{Wanted}
+use Rattle.filing.specs.declared.Wanted.TheVariants.{Plan, Certificate}
 use Rattle.page_writer.specs.declared.PageText.{PageText}
 use Rattle.desk.specs.declared.calls.Question.TheVariants as question
 use Rattle.desk.specs.declared.edits.Edit.TheVariants.{Rank, Withdraw, Restore}

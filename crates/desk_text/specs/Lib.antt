@@ -1,4 +1,3 @@
-pub mod Starts
 pub mod Forms
 pub mod Orders
 pub mod Answers

@@ -1,18 +1,18 @@
 -- What a line asks for.
-use Rattle.std.specs.Prelude.{ℕ, Bool, cond, ◌||◌, List, [], ◌∷◌, Some, None, Option, ◌==◌, nat_le, slice_index}
+use Rattle.std.specs.Prelude.{ℕ, Bool, true, false, cond, ◌||◌, List, [], ◌∷◌, Some, None, Ok, Err, Option, Result, ◌==◌, nat_le, slice_index}
+use Rattle.refusal.specs.declared.Refusal.{Refusal}
 use Rattle.refusal.specs.Tables.{at}
 use Rattle.refusal.specs.Refusals.{number_of, first_refusal}
 use Rattle.priority.specs.declared.number.Number.{Number}
 use Rattle.priority.specs.Kinds.{number_refusals}
 use Rattle.plan.specs.declared.Member.TheVariants.{Programme, Slot}
-use Rattle.page_text.specs.Bytes.{words, numbers}
+use Rattle.page_text.specs.Bytes.{words, following, numbers}
 use Rattle.desk_text.specs.declared.commands.Command.{Command}
 use Rattle.desk_text.specs.declared.commands.Command.TheVariants.{Bar, Lift, Rank, Withdraw, Restore, SlotOf, ProgrammeIn, Tally, Digit, Certificate, Judge, HandOver, Reopen, PlanPage, CertificatePage}
-use Rattle.desk_text.specs.declared.commands.Order.{Order}
-use Rattle.desk_text.specs.declared.commands.Order.TheVariants as order
+use Rattle.desk_text.specs.declared.commands.Unread.{Unread}
+use Rattle.desk_text.specs.declared.commands.Unread.TheVariants as unread
 use Rattle.desk_text.specs.declared.forms.Form.{Form}
 use Rattle.desk_text.specs.declared.forms.Form.TheVariants as form
-use Rattle.desk_text.specs.Starts.{no_words, following}
 use Rattle.desk_text.specs.Forms.{form_name, form_numbers, all_forms}
 
 -- What is to be done with a line: nothing, a command, a refusal by its number, or nothing since it is no command.
@@ -40,12 +40,21 @@ plain Reopen = Reopen
 plain PlanPage = PlanPage
 plain CertificatePage = CertificatePage
 
+-- What a line asks for in the code.
+abbrev pub Order : Type 0
+Order = Result (Option (Command Number)) Unread
+
 -- What the code's order says.
 abbrev pub said : Order → Said
-said order.Skipped = skipped
-said (order.Call command) = call (plain command)
-said (order.Refused refusal) = refused (number_of refusal)
-said order.NotUnderstood = not_understood
+said (Ok None) = skipped
+said (Ok (Some command)) = call (plain command)
+said (Err (unread.Refused refusal)) = refused (number_of refusal)
+said (Err unread.NotUnderstood) = not_understood
+
+-- What is said by a command, or by its refusal.
+abbrev pub command_said : Result (Command Number) Refusal → Said
+command_said (Ok command) = call (plain command)
+command_said (Err refusal) = refused (number_of refusal)
 
 -- A programme or a slot by its number; a number over 255 is read as 0, which nobody has.
 abbrev pub named : ℕ → ℕ
@@ -104,6 +113,11 @@ or_else f (Some ns) s = form_order f ns.0 ns.1
 abbrev pub first_order : List Form → List (List ℕ) → Said
 first_order [] ws = not_understood
 first_order (f ∷ fs) ws = or_else f (form_arguments f ws) (first_order fs ws)
+
+-- There are no words.
+abbrev pub no_words : List (List ℕ) → Bool
+no_words [] = true
+no_words (w ∷ ws) = false
 
 -- A line is skipped that has no words, or whose first byte is a number sign.
 abbrev pub to_skip : List ℕ → Bool

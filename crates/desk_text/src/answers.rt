@@ -1,83 +1,61 @@
-//! The lines that the operator is told.
-ghost use Rattle.std.specs.Prelude.{◌≡◌, ◌++◌, IfOk, string_bytes, OnOk};
-ghost use Rattle.refusal.specs.Refusals.{number_of};
+//! The lines that the operator is told, without their line feeds.
+ghost use Rattle.std.specs.Prelude.{Some};
+ghost use Rattle.std.specs.List.{flat_map};
+ghost use Rattle.std.specs.Fmt.{WritesOnOk};
 ghost use Rattle.desk.specs.Told.{told};
-ghost use Rattle.desk_text.specs.Answers.{numbered, member_line, spaced, certificate_line, tally_line, answer_line};
+ghost use Rattle.desk_text.specs.Answers.{spaced, answer_line, unread_line};
 
-use desk::calls::Answer;
-use refusal::limits::Num;
-use std::alloc::{AllocError, Global};
+use crate::commands::Unread;
+use desk::calls::{Answer, Served, Unserved};
+use std::fmt;
 
-/// A word and a number.
-fn numbered_text(heap: Global, word: &str, number: usize) -> Result<String, AllocError>
-    ensures { IfOk result (λ text. string_bytes text ≡ numbered word.now number) }
+/// Shows what a call comes to as the line that is told. A page is told by its name, and its text is for
+/// the program to write.
+#[derive(Clone, Copy)]
+pub struct AnswerLine<'a>(pub &'a Served);
+
+/// Writes each entry after a space.
+fn write_entries<W: fmt::Write>(f: &mut fmt::Formatter<W>, entries: &[u16]) -> fmt::Result
+    ensures { WritesOnOk W.write_str_gives f.old result (flat_map spaced entries.now) f.new }
 {
-    format!(in heap; "{word} {number}")
-}
-
-/// A programme or a slot by its number, or that there is none.
-fn member_text(heap: Global, word: &str, member: Option<Num>) -> Result<String, AllocError>
-    ensures { IfOk result (λ text. string_bytes text ≡ member_line word.now member) }
-{
-    match member {
-        Some(number) => numbered_text(heap, word, number as usize),
-        None => format!(in heap; "no {word}"),
-    }
-}
-
-/// The two numbers of a tally.
-fn tally_text(heap: Global, counts: (usize, usize)) -> Result<String, AllocError>
-    ensures { IfOk result (λ text. string_bytes text ≡ tally_line counts) }
-{
-    let (programmes, slots) = counts;
-    format!(in heap; "tally {programmes} {slots}")
-}
-
-/// Adds an entry after a space.
-fn push_entry(heap: Global, text: &mut String, entry: u16) -> Result<(), AllocError>
-    ensures { OnOk result (string_bytes text.new ≡ string_bytes text.old ++ spaced entry) }
-{
-    let piece = format!(in heap; " {entry}")?;
-    text.push_str(piece.as_str())
-}
-
-/// The entries of a certificate.
-fn certificate_text(heap: Global, entries: &[u16]) -> Result<String, AllocError>
-    ensures { IfOk result (λ text. string_bytes text ≡ certificate_line entries.now) }
-{
-    let mut text = String::from_str(heap, "certificate")?;
     for entry in entries {
-        push_entry(heap, &mut text, *entry)?;
+        write!(f, " {entry}")?;
     }
-    Ok(text)
+    Ok(())
 }
 
-/// Whether a plan passes.
-fn verdict_text(heap: Global, passed: bool) -> Result<String, AllocError>
-    ensures { IfOk result (λ text. string_bytes text ≡ answer_line (told (Answer.Verdict passed))) }
-{
-    if passed {
-        String::from_str(heap, "accepted")
-    } else {
-        String::from_str(heap, "rejected")
+impl fmt::Display for AnswerLine<'_> {
+    ghost output = { λ line. Some (answer_line (told line.0.now)) };
+
+    fn fmt<W: fmt::Write>(&self, f: &mut fmt::Formatter<W>) -> fmt::Result {
+        match self.0 {
+            Ok(Answer::Done) => f.write_str("done"),
+            Ok(Answer::Slot(Some(slot))) => write!(f, "slot {slot}"),
+            Ok(Answer::Slot(None)) => f.write_str("no slot"),
+            Ok(Answer::Programme(Some(programme))) => write!(f, "programme {programme}"),
+            Ok(Answer::Programme(None)) => f.write_str("no programme"),
+            Ok(Answer::Digit(digit)) => write!(f, "digit {digit}"),
+            Ok(Answer::Tally((programmes, slots))) => write!(f, "tally {programmes} {slots}"),
+            Ok(Answer::Certificate(entries)) => {
+                f.write_str("certificate")?;
+                write_entries(f, entries)
+            }
+            Ok(Answer::Verdict(true)) => f.write_str("accepted"),
+            Ok(Answer::Verdict(false)) => f.write_str("rejected"),
+            Ok(Answer::Page(_)) => f.write_str("page"),
+            Err(Unserved::Refused(refusal)) => write!(f, "refused {}", refusal.number()),
+            Err(Unserved::NotOffered) => f.write_str("not offered"),
+        }
     }
 }
 
-/// The line of an answer, without its line feed. A page is told by its name, and its text is for the
-/// program to write.
-pub fn answer_text(heap: Global, answer: &Answer) -> Result<String, AllocError>
-    ensures { IfOk result (λ text. string_bytes text ≡ answer_line (told answer.now)) }
-{
-    match answer {
-        Answer::Done => String::from_str(heap, "done"),
-        Answer::Slot(slot) => member_text(heap, "slot", *slot),
-        Answer::Programme(programme) => member_text(heap, "programme", *programme),
-        Answer::Digit(digit) => numbered_text(heap, "digit", *digit),
-        Answer::Tally(counts) => tally_text(heap, *counts),
-        Answer::Certificate(entries) => certificate_text(heap, entries.as_slice()),
-        Answer::Verdict(passed) => verdict_text(heap, *passed),
-        Answer::Page(_) => String::from_str(heap, "page"),
-        Answer::Refused(refusal) => numbered_text(heap, "refused", refusal.number() as usize),
-        Answer::NotOffered => String::from_str(heap, "not offered"),
+impl fmt::Display for Unread {
+    ghost output = { λ unread. Some (unread_line unread) };
+
+    fn fmt<W: fmt::Write>(&self, f: &mut fmt::Formatter<W>) -> fmt::Result {
+        match self {
+            Unread::Refused(refusal) => write!(f, "refused {}", refusal.number()),
+            Unread::NotUnderstood => f.write_str("not understood"),
+        }
     }
 }

@@ -1,36 +1,24 @@
 //! The desk's call for a command.
-ghost use Rattle.std.specs.Prelude.{◌≡◌, IfOk};
+ghost use Rattle.std.specs.Prelude.{IfOk};
 ghost use Rattle.desk_text.specs.Calls.{Asked, PageAsked};
 
 use crate::commands::Command;
-use desk::calls::{Call, Question, Wanted};
+use desk::calls::{Call, Question};
 use desk::edits::{Edit, OpenEdit};
+use filing::Wanted;
 use page_writer::PageText;
 use priority::number::Number;
 use std::alloc::{AllocError, Global};
 
+/// A call of an operator: of an open source, with priorities of the number kind.
+pub type OperatorCall<S> = Call<S, Number, OpenEdit<Number>>;
+
 /// The call for a page, with room for it.
-fn page_call<S>(
-    heap: Global,
-    wanted: Wanted,
-) -> Result<Call<S, Number, OpenEdit<Number>>, AllocError>
+fn page_call<S>(heap: Global, wanted: Wanted) -> Result<OperatorCall<S>, AllocError>
     ensures { IfOk result (λ call. PageAsked wanted call) }
 {
-    match PageText::new(heap) {
-        Ok(text) => Ok(Call::Write(wanted, text)),
-        Err(_) => Err(AllocError),
-    }
-}
-
-/// The call for a certificate, told into a table of that many places.
-fn certificate_call<S>(
-    heap: Global,
-    places: usize,
-) -> Result<Call<S, Number, OpenEdit<Number>>, AllocError>
-    ensures { IfOk result (λ call. Asked places Command.Certificate call) }
-{
-    let table = vec![in heap; 0u16; places]?;
-    Ok(Call::Ask(Question::Certificate(table)))
+    let text = PageText::new(heap).map_err(|_| AllocError)?;
+    Ok(Call::Write(wanted, text))
 }
 
 /// The call for a command. A certificate is asked for in a table of that many places.
@@ -38,7 +26,7 @@ pub fn call_of<S>(
     heap: Global,
     command: Command<Number>,
     places: usize,
-) -> Result<Call<S, Number, OpenEdit<Number>>, AllocError>
+) -> Result<OperatorCall<S>, AllocError>
     ensures { IfOk result (λ call. Asked places command call) }
 {
     match command {
@@ -51,7 +39,10 @@ pub fn call_of<S>(
         Command::ProgrammeIn(slot) => Ok(Call::Ask(Question::ProgrammeIn(slot))),
         Command::Tally(priority) => Ok(Call::Ask(Question::Tally(priority))),
         Command::Digit(priority) => Ok(Call::Ask(Question::Digit(priority))),
-        Command::Certificate => certificate_call(heap, places),
+        Command::Certificate => {
+            let table = vec![in heap; 0; places]?;
+            Ok(Call::Ask(Question::Certificate(table)))
+        }
         Command::Judge => Ok(Call::Ask(Question::JudgeStored)),
         Command::HandOver => Ok(Call::HandOver),
         Command::Reopen => Ok(Call::Reopen),

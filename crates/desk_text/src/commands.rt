@@ -1,4 +1,7 @@
 //! What an operator's line asks for.
+ghost use Rattle.std.specs.Prelude.{◌≡◌};
+ghost use Rattle.desk_text.specs.declared.commands.Unread.TheVariants.{Refused};
+
 use plan::Member;
 use priority::number::Number;
 use refusal::Refusal;
@@ -39,15 +42,22 @@ pub enum Command<P> {
     CertificatePage,
 }
 
-/// What is to be done with a line.
-#[derive(Clone, Copy)]
-pub enum Order {
-    /// Nothing: the line is blank, or begins with `#`.
-    Skipped,
-    /// This command.
-    Call(Command<Number>),
+/// Why a line gives no command.
+#[derive(Clone, Copy, PartialEq, Eq, Debug)]
+pub enum Unread {
     /// It is refused: its priority is none.
     Refused(Refusal),
-    /// Nothing: it is no command.
+    /// It is not understood.
     NotUnderstood,
 }
+
+impl From<Refusal> for Unread {
+    ghost from_gives = { λ refusal unread. unread ≡ Refused refusal };
+
+    fn from(refusal: Refusal) -> Unread {
+        Unread::Refused(refusal)
+    }
+}
+
+/// What a line asks for: a command, or nothing where it is blank or begins with `#`.
+pub type Order = Result<Option<Command<Number>>, Unread>;

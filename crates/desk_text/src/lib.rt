@@ -6,4 +6,3 @@ pub mod calling;
 pub mod commands;
 mod forms;
 pub mod reading;
-mod words;

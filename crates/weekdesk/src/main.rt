@@ -11,9 +11,8 @@ mod session;
 mod telling;
 
 use anyhow::anyhow;
-use commands::answer::Written;
 use commands::week_pages::{WeekRead, WeekRoom, read_week};
-use folder::{WeekFiles, folder_argument, write_text};
+use folder::{WeekFiles, folder_argument, write_answer};
 use page_writer::PageText;
 use page_writer::answer_line::Declined;
 use session::Session;
@@ -25,19 +24,14 @@ fn read_folder(rt: &HostRuntime, folder: &str) -> anyhow::Result<WeekRead> {
     let Ok(room) = WeekRoom::new(rt.alloc()) else {
         return Err(anyhow!("no memory"));
     };
-    let Ok(mut text) = PageText::new(rt.alloc()) else {
+    let Ok(text) = PageText::new(rt.alloc()) else {
         return Err(anyhow!("no memory"));
     };
     let files = WeekFiles::read(rt, folder)?;
     match read_week(room, &files.bytes()) {
         Ok(week) => Ok(week),
         Err(fault) => {
-            text.write_refusal(Declined::Page(fault));
-            let written = Written {
-                text,
-                refused: true,
-            };
-            write_text(rt, &written)?;
+            write_answer(rt, &Err(text.refusal(Declined::Page(fault))))?;
             Err(anyhow!("refused"))
         }
     }

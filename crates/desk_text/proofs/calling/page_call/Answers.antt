@@ -1,5 +1,5 @@
 use Rattle.std.proofs.Common.{refl}
 use Rattle.desk_text.proofs.calling.page_call.Goals as goal
 
-pub returns-in-Ok : goal.returns-in-Ok
-returns-in-Ok g c = (c.in-Ok.text, refl)
+pub returns : goal.returns
+returns g c = (c.in_ok-text.text, refl)

@@ -1,3 +1,0 @@
-mod Following
-mod Orders
-mod Entries
