@@ -88,7 +88,3 @@ at_lists {xs} {ys} {xs'} {ys'} F ex ey h = subst (λ zs. F xs' zs) ey (subst (λ
 pub test_passed : (t : Bool) (k : ℕ) → None ≡ first_refusal ((not t, k) ∷ []) → t ≡ true
 test_passed true k e = refl
 test_passed false k e = let z : ◌≡◌ {A = ℕ} 0 1 = cc in absurd (native.Mathlib.Nat.suc-ne-zero 0 (sym z))
-
-pub test_failed : (t : Bool) (k n : ℕ) → Some n ≡ first_refusal ((not t, k) ∷ []) → (t ≡ false) × (n ≡ k)
-test_failed true k n e = let z : ◌≡◌ {A = ℕ} 0 1 = cc in absurd (native.Mathlib.Nat.suc-ne-zero 0 (sym z))
-test_failed false k n e = (refl, cc)

@@ -31,25 +31,11 @@ whole_told pairs possible xs ys t u plan plan' same none e =
     (none ∙ ap {B = Option ℕ} (λ (p : Plan). first_refusal (whole_refusals (fits pairs xs ys (held p)))) same ∙ ap {B = Option ℕ} (λ (b : Bool). first_refusal (whole_refusals b)) (plan_in_order plan' pairs possible xs ys))
     (e ∙ ap u same)
 
--- the tests of the certificate, by the week's sheet and by the ledger
-pub certificate_tests : {P : Type 0} (sheet : Sheet) (pairs : Pairs) (possible : ℕ → ℕ → Bool) (xs ys : List P) (room room' : ℕ) → room ≡ room'
-    → first_refusal (certificate_refusals (fits pairs xs ys (plan_in sheet)) (leb (entry_count sheet) room))
-    ≡ first_refusal (certificate_refusals (in_order (account pairs possible xs ys (plan_in sheet).attendance)) (leb (length (certificate_in sheet)) room'))
-certificate_tests sheet pairs possible xs ys room room' r =
-    let e = plan_in_order sheet.plan pairs possible xs ys in
-    let n = length-append (vec_items sheet.certificate.programmes) (vec_items sheet.certificate.slots) in
-    rw (e, ← n, r) refl
-
 -- what is written over a table is read off its start
 pub read_over : (xs ys entries table last : List ℕ) (n : ℕ) → entries ≡ xs ++ ys → n ≡ length xs + length ys → last ≡ over entries table → take (n - 0) last ≡ entries
 read_over xs ys entries table last n e count written =
     let len : n - 0 ≡ length entries = omega (arith, ap length e, length-append xs ys) in
     rw (written, len) (take-append_seam entries (drop (length entries) table))
-
--- what an accepted call promises, where it is not refused
-pub not_refused : {T E Q : Type 0} (r : Result T E) → ((e : E) → r ≡ Err e → ⊥) → IfOk r (λ _. Q) → Q
-not_refused (Ok v) n q = q
-not_refused (Err e) n q = absurd (n e refl)
 
 -- an answer for the plan, the entries and the question that were handed on
 module _ {P : Type 0} (reaches : P → P → Bool) (pairs : Pairs) (possible : ℕ → ℕ → Bool) (xs ys : List P) (plan plan' : Plan) (stored : List ℕ) (t : Told) (same : plan ≡ plan') where

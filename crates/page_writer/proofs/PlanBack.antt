@@ -8,7 +8,7 @@ use Rattle.refusal.specs.Counting.{within}
 use Rattle.refusal.specs.Tables.{at}
 use Rattle.refusal.proofs.Counts.{within_bounds, within_from}
 use Rattle.page_text.specs.declared.fault.Page.{Page}
-use Rattle.page_text.specs.declared.line.PageKind.TheVariants as kind-of
+use Rattle.page_text.specs.declared.line.PageKind.TheVariants as kind_of
 use Rattle.page_text.specs.Limits.{page_limit}
 use Rattle.pages.specs.PairPages.{read_pairs}
 use Rattle.pages.specs.PageLaws.{listed, Apart, PairsFit}
@@ -155,5 +155,5 @@ module _ (slots : ℕ) (t : List ℕ) where
       let small : AllByRecursion (Written 1 (λ (p : ℕ × ℕ). p.0) (λ (p : ℕ × ℕ). p.1 ∷ []) (omega arith) (λ p. refl)) ps =
       all_map (In columns t rows) _ (λ p k. (omega (arith, k.1), (omega (arith, within_bounds columns p.1 k.2), tt))) ps inner in
       let few : length ps < 10 ^ 9 = omega (arith, places_rows columns t rows) in
-      pairs_law page text rows columns ps (made 1 (λ (p : ℕ × ℕ). p.0) (λ (p : ℕ × ℕ). p.1 ∷ []) (omega arith) (λ p. refl) kind-of.Pairs rows (columns ∷ length ps ∷ []) ps text (omega arith) (omega arith, (few, tt)) (omega arith) small e h) fit
+      pairs_law page text rows columns ps (made 1 (λ (p : ℕ × ℕ). p.0) (λ (p : ℕ × ℕ). p.1 ∷ []) (omega arith) (λ p. refl) kind_of.Pairs rows (columns ∷ length ps ∷ []) ps text (omega arith) (omega arith, (few, tt)) (omega arith) small e h) fit
       ∙ ap (λ f. Ok (record { programmes = rows; slots = columns; allowed = f })) (fun_ext (λ i. fun_ext (λ s. listed_places columns t rows i s)))

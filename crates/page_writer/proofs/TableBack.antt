@@ -3,7 +3,7 @@ use Rattle.std.proofs.Common.{◌≡◌, ℕ, zero, suc, ◌*◌, ◌≤◌, min
 use Rattle.std.specs.List.{AllByRecursion}
 use Rattle.std.proofs.lemmas.List.{length-take-le}
 use Rattle.refusal.specs.Limits.{side}
-use Rattle.page_text.specs.declared.line.PageKind.TheVariants as kind-of
+use Rattle.page_text.specs.declared.line.PageKind.TheVariants as kind_of
 use Rattle.page_text.specs.Limits.{page_limit}
 use Rattle.pages.specs.declared.table_pages.Columns.{Columns}
 use Rattle.pages.specs.declared.table_pages.Columns.TheVariants.{One, Two}
@@ -47,5 +47,5 @@ module _ (columns : Columns) (values : List ℕ) (a : AllByRecursion (λ v. v �
       let small = all_take (λ v. v ≤ 65535) (rows * width columns) values a in
       let lines : AllByRecursion (Written 0 (λ (v : ℕ). v) (λ (v : ℕ). []) (omega arith) (λ v. refl)) vs = all_map (λ v. v ≤ 65535) _ (λ v b. (omega arith, tt)) vs small in
       values_law columns room page text rows vs
-      (made 0 (λ (v : ℕ). v) (λ (v : ℕ). []) (omega arith) (λ v. refl) kind-of.Table rows (width columns ∷ []) vs text (omega arith) (omega (arith, width_small columns), tt) (omega arith) lines e h)
+      (made 0 (λ (v : ℕ). v) (λ (v : ℕ). []) (omega arith) (λ v. refl) kind_of.Table rows (width columns ∷ []) vs text (omega arith) (omega (arith, width_small columns), tt) (omega arith) lines e h)
       (record { few_rows = omega arith; all = long; fit = omega arith; small = small })

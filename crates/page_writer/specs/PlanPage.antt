@@ -5,7 +5,7 @@ use Rattle.refusal.specs.Limits.{side}
 use Rattle.refusal.specs.Counting.{within}
 use Rattle.refusal.specs.Tables.{at}
 use Rattle.source.specs.Pairs.{Pairs}
-use Rattle.page_text.specs.declared.line.PageKind.TheVariants as kind-of
+use Rattle.page_text.specs.declared.line.PageKind.TheVariants as kind_of
 use Rattle.page_writer.specs.Texts.{title, number_line}
 
 -- A plan is told as the slots of its programmes: under each programme its slot, or 0.
@@ -31,7 +31,7 @@ pair_line p = number_line p.0 (p.1 ∷ [])
 
 -- The page with these sizes and pairs.
 abbrev pub pairs_page : ℕ → ℕ → List (ℕ × ℕ) → List ℕ
-pairs_page rows columns ps = title kind-of.Pairs ++ (number_line rows (columns ∷ length ps ∷ []) ++ flat_map pair_line ps)
+pairs_page rows columns ps = title kind_of.Pairs ++ (number_line rows (columns ∷ length ps ∷ []) ++ flat_map pair_line ps)
 
 -- The page of a plan.
 abbrev pub plan_page : ℕ → List ℕ → List ℕ

@@ -3,7 +3,7 @@ use Rattle.std.specs.Prelude.{◌≡◌, ℕ, ◌*◌, ◌/◌, ◌≤◌, min, 
 use Rattle.std.specs.List.{flat_map}
 use Rattle.refusal.specs.Limits.{side}
 use Rattle.page_text.specs.declared.fault.Page.{Page}
-use Rattle.page_text.specs.declared.line.PageKind.TheVariants as kind-of
+use Rattle.page_text.specs.declared.line.PageKind.TheVariants as kind_of
 use Rattle.pages.specs.declared.table_pages.Columns.{Columns}
 use Rattle.pages.specs.TablePages.{width, read_table}
 use Rattle.pages.specs.PageLaws.{padded}
@@ -23,7 +23,7 @@ value_line v = number_line v []
 
 -- The page with these sizes and values.
 abbrev pub values_page : ℕ → ℕ → List ℕ → List ℕ
-values_page rows columns vs = title kind-of.Table ++ (number_line rows (columns ∷ []) ++ flat_map value_line vs)
+values_page rows columns vs = title kind_of.Table ++ (number_line rows (columns ∷ []) ++ flat_map value_line vs)
 
 -- The page of a table.
 abbrev pub table_page : Columns → List ℕ → List ℕ

@@ -13,7 +13,7 @@ use Rattle.pages.specs.declared.table_pages.Columns.{Columns}
 use Rattle.pages.specs.Stages.{chain, given}
 use Rattle.pages.specs.TablePages.{Sheet, width, begun, value_put, table_format, table_numbers, table_limited, value_numbers, read_table, table_left}
 use Rattle.pages.specs.PageLaws.{padded, ValuesFit, ReadsTable, MadeOf}
-use Rattle.page_text.specs.declared.line.PageKind.TheVariants as kind-of
+use Rattle.page_text.specs.declared.line.PageKind.TheVariants as kind_of
 use Rattle.pages.proofs.Laws.{Leads, page_law}
 
 module _ (columns : Columns) (room rows : ℕ) where
@@ -38,7 +38,7 @@ module _ (columns : Columns) (room rows : ℕ) where
   leads us (v ∷ vs) h a =
       (reached (us ++ v ∷ []), λ l e. put_value us v l (omega arith) a.0 e, rw (← append_assoc us (v ∷ []) vs) (leads (us ++ v ∷ []) vs (omega (arith, length_push us v)) a.1))
 
-pub values_law : (columns : Columns) (room : ℕ) (page : Page) (bytes : List ℕ) (rows : ℕ) (vs : List ℕ) → MadeOf kind-of.Table 1 bytes (rows ∷ width columns ∷ []) (map (λ v. v ∷ []) vs) → ValuesFit rows (width columns) room vs → read_table columns room page bytes ≡ Ok (record { rows = rows; filled = length vs; values = padded room vs })
+pub values_law : (columns : Columns) (room : ℕ) (page : Page) (bytes : List ℕ) (rows : ℕ) (vs : List ℕ) → MadeOf kind_of.Table 1 bytes (rows ∷ width columns ∷ []) (map (λ v. v ∷ []) vs) → ValuesFit rows (width columns) room vs → read_table columns room page bytes ≡ Ok (record { rows = rows; filled = length vs; values = padded room vs })
 values_law columns room page bytes rows vs m h =
     let w = width columns in
     let zeros : List ℕ = replicate room 0 in

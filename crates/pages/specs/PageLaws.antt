@@ -9,7 +9,7 @@ use Rattle.page_text.specs.declared.fault.Fault.{Fault}
 use Rattle.page_text.specs.declared.fault.Page.{Page}
 use Rattle.page_text.specs.declared.line.LineKind.TheVariants.{Blank, Comment, Text}
 use Rattle.page_text.specs.declared.line.PageKind.{PageKind}
-use Rattle.page_text.specs.declared.line.PageKind.TheVariants as kind-of
+use Rattle.page_text.specs.declared.line.PageKind.TheVariants as kind_of
 use Rattle.page_text.specs.Limits.{page_limit, line_limit}
 use Rattle.page_text.specs.Bytes.{words, numbers}
 use Rattle.page_text.specs.Lines.{lines, line_kind, header}
@@ -69,7 +69,7 @@ listed_pairs rows columns ps = record { programmes = rows; slots = columns; allo
 -- A page made of pairs that fit is read as exactly those pairs.
 abbrev pub ReadsPairs : List ℕ → Result Pairs Fault → Type 0
 ReadsPairs bytes answer =
-    (rows columns : ℕ) (ps : List (ℕ × ℕ)) → MadeOf kind-of.Pairs 2 bytes (rows ∷ columns ∷ length ps ∷ []) (map (λ p. p.0 ∷ p.1 ∷ []) ps) → PairsFit rows columns ps → answer ≡ Ok (listed_pairs rows columns ps)
+    (rows columns : ℕ) (ps : List (ℕ × ℕ)) → MadeOf kind_of.Pairs 2 bytes (rows ∷ columns ∷ length ps ∷ []) (map (λ p. p.0 ∷ p.1 ∷ []) ps) → PairsFit rows columns ps → answer ≡ Ok (listed_pairs rows columns ps)
 
 -- Values that a page can say, and for which the supplied table has room.
 pub record ValuesFit (rows columns room : ℕ) (vs : List ℕ) : Type 0 where
@@ -85,7 +85,7 @@ padded room vs = vs ++ replicate (room - length vs) 0
 -- A page made of values that fit is read as exactly those values, with zeros after them.
 abbrev pub ReadsTable : Columns → ℕ → List ℕ → Result ℕ Fault → List ℕ → Type 0
 ReadsTable columns room bytes answer table =
-    (rows : ℕ) (vs : List ℕ) → MadeOf kind-of.Table 1 bytes (rows ∷ width columns ∷ []) (map (λ v. v ∷ []) vs) → ValuesFit rows (width columns) room vs → (answer ≡ Ok rows) × (table ≡ padded room vs)
+    (rows : ℕ) (vs : List ℕ) → MadeOf kind_of.Table 1 bytes (rows ∷ width columns ∷ []) (map (λ v. v ∷ []) vs) → ValuesFit rows (width columns) room vs → (answer ≡ Ok rows) × (table ≡ padded room vs)
 
 -- Where the reading stands after some lines, or the first refusal among them.
 abbrev pub runs : {X : Type 0} → Format X → Reading × X → List (List ℕ) → Result (Reading × X) Refusal

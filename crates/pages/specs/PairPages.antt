@@ -6,7 +6,7 @@ use Rattle.refusal.specs.declared.Refusal.TheVariants as no
 use Rattle.source.specs.Pairs.{Pairs, inside, holds, changed, empty_pairs}
 use Rattle.page_text.specs.declared.fault.Fault.{Fault}
 use Rattle.page_text.specs.declared.fault.Page.{Page}
-use Rattle.page_text.specs.declared.line.PageKind.TheVariants as kind-of
+use Rattle.page_text.specs.declared.line.PageKind.TheVariants as kind_of
 use Rattle.page_text.specs.Bytes.{words, numbers}
 use Rattle.pages.specs.Stages.{Format, read_page}
 
@@ -38,7 +38,7 @@ pair_entered p line = pair_numbers p (numbers 2 (words line))
 
 -- The format of pairs.
 abbrev pub pair_format : Format Pairs
-pair_format = record { kind = kind-of.Pairs; fresh = empty_pairs 0 0; sized = λ p line. pairs_sized line; entered = pair_entered }
+pair_format = record { kind = kind_of.Pairs; fresh = empty_pairs 0 0; sized = λ p line. pairs_sized line; entered = pair_entered }
 
 -- What a page of pairs says, or its fault.
 abbrev pub read_pairs : Page → List ℕ → Result Pairs Fault

@@ -5,7 +5,7 @@ use Rattle.refusal.specs.declared.Refusal.{Refusal}
 use Rattle.refusal.specs.declared.Refusal.TheVariants as no
 use Rattle.page_text.specs.declared.fault.Fault.{Fault}
 use Rattle.page_text.specs.declared.fault.Page.{Page}
-use Rattle.page_text.specs.declared.line.PageKind.TheVariants as kind-of
+use Rattle.page_text.specs.declared.line.PageKind.TheVariants as kind_of
 use Rattle.page_text.specs.Bytes.{words, numbers}
 use Rattle.pages.specs.declared.table_pages.Columns.{Columns}
 use Rattle.pages.specs.declared.table_pages.Columns.TheVariants.{One, Two}
@@ -80,7 +80,7 @@ value_entered sheet line = chain (value_of line) (λ v. Ok (value_put sheet v))
 abbrev pub table_format : Columns → ℕ → Format Sheet
 table_format columns room =
     record {
-      kind = kind-of.Table;
+      kind = kind_of.Table;
       fresh = record { rows = 0; filled = 0; values = replicate room 0 };
       sized = table_sized (width columns);
       entered = value_entered;

@@ -10,9 +10,6 @@ use Rattle.refusal.specs.Tables.{at, put, item, both, holds_at}
 use Rattle.refusal.proofs.Counts.{within_from}
 
 -- ---- at
-pub at_read : {X : Type 0} (d : X) (xs : List X) (k : ℕ) (x : X) → 1 ≤ k → k ≤ length xs → x ≡ get_or xs (k - 1) x → x ≡ at d xs k
-at_read d xs zero x a b e = absurd (let z : ⊥ = omega arith in z)
-at_read d xs (suc k) x a b e = let i : suc k - 1 ≡ k = omega arith in get_or_read xs k x (omega arith) (e ∙ ap (λ j. get_or xs j x) i) d
 
 pub at_past : {X : Type 0} (d : X) (xs : List X) (k : ℕ) → (1 ≤ k → length xs < k) → at d xs k ≡ d
 at_past d xs zero h = refl
@@ -55,10 +52,6 @@ item_read xs (suc k) x h l e =
     let i : suc k - 1 ≡ k = omega arith in
     slice_get_read xs (length xs) k x refl (omega arith) (e ∙ ap (λ j. get_or xs j x) i)
 
-pub item_past : {X : Type 0} (xs : List X) (k : ℕ) → (1 ≤ k → length xs < k) → item xs k ≡ None
-item_past xs zero h = refl
-item_past xs (suc k) h = slice_get_past xs k (omega (arith, h (omega arith)))
-
 nth_some : {X : Type 0} (xs : List X) (k : ℕ) → k < length xs → (x : X) × (slice_get xs k ≡ Some x)
 nth_some [] k h = absurd (let z : ⊥ = omega arith in z)
 nth_some (x ∷ xs) zero h = (x, refl)
@@ -71,13 +64,3 @@ item_some xs (suc k) h l = nth_some xs k (omega arith)
 -- ---- holds_at
 pub holds_at_read : {X : Type 0} (f : X → X → Bool) (xs : List X) (a b : ℕ) (x y : X) → item xs a ≡ Some x → item xs b ≡ Some y → holds_at f xs a b ≡ f x y
 holds_at_read f xs a b x y p q = ap (λ o. both f o (item xs b)) p ∙ ap (λ o. both f (Some x) o) q
-
-both_none : {X : Type 0} (f : X → X → Bool) (o : Option X) → both f o None ≡ false
-both_none f None = refl
-both_none f (Some x) = refl
-
-pub holds_at_left : {X : Type 0} (f : X → X → Bool) (xs : List X) (a b : ℕ) → item xs a ≡ None → holds_at f xs a b ≡ false
-holds_at_left f xs a b e = ap (λ o. both f o (item xs b)) e
-
-pub holds_at_right : {X : Type 0} (f : X → X → Bool) (xs : List X) (a b : ℕ) → item xs b ≡ None → holds_at f xs a b ≡ false
-holds_at_right f xs a b e = ap (λ o. both f (item xs a) o) e ∙ both_none f (item xs a)

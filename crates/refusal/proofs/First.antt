@@ -118,18 +118,3 @@ module _ (P : ℕ → Bool) where
   pub count_last : (last k : ℕ) → 0 < k → k ≤ last + 1 → first_from P last k ≡ None → count P last ≡ count P (k - 1)
   count_last last k h b f =
       count_flat (k - 1) last (omega arith) (λ j a c. first_none last k f j (omega arith) c)
-
--- ---- a search over the numbers that pass P, for one that passes Q too
-module _ (P Q : ℕ → Bool) (sub : (j : ℕ) → P j ≡ false → Q j ≡ false) where
-  pub sieve_here : (last k s : ℕ) → first_from P last k ≡ Some s → Q s ≡ true → first_from Q last k ≡ Some s
-  sieve_here last k s h q =
-      let r = first_some P last k s h in
-      first_jump Q last k s r.0 (λ j a b. sub j (r.3 j a b)) ∙ first_here Q last s r.1 q
-
-  pub sieve_on : (last k s : ℕ) → first_from P last k ≡ Some s → Q s ≡ false → first_from Q last k ≡ first_from Q last (s + 1)
-  sieve_on last k s h q =
-      let r = first_some P last k s h in
-      first_jump Q last k s r.0 (λ j a b. sub j (r.3 j a b)) ∙ first_on Q last s q
-
-  pub sieve_end : (last k : ℕ) → first_from P last k ≡ None → first_from Q last k ≡ None
-  sieve_end last k h = first_empty Q last k (λ j a b. sub j (first_none P last k h j a b))

@@ -18,13 +18,6 @@ use Rattle.planner.specs.Settling.{entries}
 use Rattle.planner.proofs.Plans.{plan_lengths, same_lengths}
 use Rattle.week.specs.Planned.{Planned}
 
--- a plan that was just reset to the source's counts fits
-pub reset_fits : {P : Type 0} (pairs : Pairs) (xs ys : List P) (h : Held) (n m : ℕ) → true ≡ parts_fit pairs xs ys → h ≡ nothing n m → n ≡ pairs.programmes → m ≡ pairs.slots → fits pairs xs ys h ≡ true
-reset_fits pairs xs ys h n m fit e a b =
-    let p : length h.slot_of ≡ pairs.programmes = ap (λ (x : Held). length x.slot_of) e ∙ length-replicate n 0 ∙ a in
-    let q : length h.programme_in ≡ pairs.slots = ap (λ (x : Held). length x.programme_in) e ∙ length-replicate m 0 ∙ b in
-    and_from _ _ (sym fit) (and_from _ _ (eq-eqb _ _ p) (eq-eqb _ _ q))
-
 module _ {P : Type 0} (reaches : P → P → Bool) (pairs : Pairs) (xs ys : List P) (old new : Plan) (certificate : Certificate) (r : Result (Unit {0}) Refusal)
     (fit : fits pairs xs ys (held old) ≡ true)
     (answer : refusal_of r ≡ first_refusal (whole_refusals (fits pairs xs ys (held old)))) where

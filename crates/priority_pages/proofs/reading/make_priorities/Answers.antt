@@ -1,7 +1,7 @@
 use Rattle.std.proofs.Common.{◌+◌, Err, vec_items, vec_len, ap, ◌∙◌, arith}
 use Rattle.std.proofs.lemmas.Result.{err_from_is_err_and}
 use Rattle.refusal.specs.Tables.{at}
-use Rattle.pages.specs.Stages.{given as as-given}
+use Rattle.pages.specs.Stages.{given as as_given}
 use Rattle.priority_pages.proofs.Rows.{made_step, made_refused}
 use Rattle.priority_pages.proofs.reading.make_priorities.Goals as goal
 
@@ -9,7 +9,7 @@ pub returns-in_err-of_row : goal.returns-in_err-of_row
 returns-in_err-of_row g c =
     let of = g.P.PagePriority in
     let p = err_from_is_err_and c.from_residual.result c.from_residual.ensures.1 in
-    ap (as-given _) (p.1 ∙ ap Err p.2) ∙ made_refused of.made_of of.fits (λ i. of.numbers (at 0 c.args.table.now i) (at 0 c.args.table.now (c.args.rows + i))) c.args.rows c.loop-number.number _ (of.numbers c.entry-first.result c.entry-second.result) (omega arith) (omega arith) (cc) c.in_err-of_row.ensures
+    ap (as_given _) (p.1 ∙ ap Err p.2) ∙ made_refused of.made_of of.fits (λ i. of.numbers (at 0 c.args.table.now i) (at 0 c.args.table.now (c.args.rows + i))) c.args.rows c.loop-number.number _ (of.numbers c.entry-first.result c.entry-second.result) (omega arith) (omega arith) (cc) c.in_err-of_row.ensures
 
 pub loop-number-preserved : goal.loop-number-preserved
 loop-number-preserved g c =
