@@ -107,6 +107,5 @@ module _ (allowed : ℕ → ℕ → Bool) (attendance : Sides Bool) (slot_of : L
 
 -- where each pair may stand, whoever stands in a slot that may be used may be moved
 module _ (allowed : ℕ → ℕ → Bool) (members slots : List Bool) (slot_of member_in : List ℕ) (ag : Agrees slot_of member_in) (law : AllStand allowed members slots slot_of) where
-
   pub clear_member : (x : ℕ) → at false members x ≡ true → 0 < at 0 slot_of x → at false slots (at 0 slot_of x) ≡ true
   clear_member x p h = (and_parts (at false slots (at 0 slot_of x)) _ (and_parts (at false members x) _ (law x h)).1).0
