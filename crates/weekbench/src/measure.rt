@@ -37,9 +37,8 @@ fn plan_once(rt: &HostRuntime, week: &mut Week) -> anyhow::Result<Taken> {
     let mut plan = Plan::new(rt.alloc())?;
     let mut certificate = Certificate::new(rt.alloc())?;
     let mut workspace = Workspace::new(rt.alloc())?;
-    if plan.reset(week.programmes.len(), week.slots.len()).is_err() {
-        return Err(anyhow!("no plan"));
-    }
+    plan.reset(week.programmes.len(), week.slots.len())
+        .map_err(|_| anyhow!("no plan"))?;
     let source = Questions::new(&week.pairs);
     let programmes = Ranking::new(&mut week.programmes);
     let slots = Ranking::new(&mut week.slots);
@@ -55,9 +54,7 @@ fn plan_once(rt: &HostRuntime, week: &mut Week) -> anyhow::Result<Taken> {
         &mut workspace,
     );
     let micros = start.elapsed(rt)?.as_micros();
-    if settled.is_err() {
-        return Err(anyhow!("not planned"));
-    }
+    settled.map_err(|_| anyhow!("not planned"))?;
     Ok(Taken {
         questions: source.asked(),
         searches: workspace.searches(),

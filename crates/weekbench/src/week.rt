@@ -65,9 +65,9 @@ impl Week {
         kind: Kind,
         side: u8,
     ) -> anyhow::Result<Week> {
-        let Ok(mut pairs) = Grid::new(heap, side as usize, side as usize) else {
-            return Err(anyhow!("no grid"));
-        };
+        let mut pairs = Grid::new(heap, side as usize, side as usize).map_err(|_| anyhow!(
+            "no grid"
+        ))?;
         for programme in 1..=side {
             draw_slots(&mut pairs, draws, kind, side, programme);
         }
@@ -98,10 +98,8 @@ fn draw_slots(pairs: &mut Grid, draws: &mut Draws, kind: Kind, side: u8, program
 fn draw_priorities(heap: Global, draws: &mut Draws, count: u8) -> anyhow::Result<Vec<Number>> {
     let mut priorities = Vec::new(heap);
     for _ in 0..count {
-        let Ok(priority) = Number::new(draws.below(255) as u16 + 1) else {
-            return Err(anyhow!("no priority"));
-        };
-        priorities.push(priority)?;
+        let number = draws.below(255) as u16 + 1;
+        priorities.push(Number::new(number).map_err(|_| anyhow!("no priority"))?)?;
     }
     Ok(priorities)
 }

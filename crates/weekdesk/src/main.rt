@@ -14,7 +14,6 @@ use anyhow::anyhow;
 use commands::week_pages::{WeekRead, WeekRoom, read_week};
 use folder::{WeekFiles, folder_argument, write_answer};
 use page_writer::PageText;
-use page_writer::answer_line::Declined;
 use session::Session;
 use std::io::Read;
 use telling::tell;
@@ -31,7 +30,7 @@ fn read_folder(rt: &HostRuntime, folder: &str) -> anyhow::Result<WeekRead> {
     match read_week(room, &files.bytes()) {
         Ok(week) => Ok(week),
         Err(fault) => {
-            write_answer(rt, &Err(text.refusal(Declined::Page(fault))))?;
+            write_answer(rt, &Err(text.refusal(fault.into())))?;
             Err(anyhow!("refused"))
         }
     }

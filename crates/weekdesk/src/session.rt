@@ -57,15 +57,16 @@ impl Session {
 
     /// Takes the line of that number down.
     fn take_line(&mut self, heap: Global, number: usize, line: &[u8]) -> Result<(), AllocError> {
-        let call = match read_order(line) {
-            Ok(None) => return Ok(()),
-            Ok(Some(command)) => {
-                self.calls.push(call_of(heap, command, self.places)?)?;
-                Ok(())
-            }
-            Err(unread) => Err(unread),
-        };
-        self.notes.push(Note { line: number, call })?;
+        let order = read_order(line);
+        if let Ok(Some(command)) = order {
+            self.calls.push(call_of(heap, command, self.places)?)?;
+        }
+        if !matches!(order, Ok(None)) {
+            self.notes.push(Note {
+                line: number,
+                call: order.map(|_| ()),
+            })?;
+        }
         Ok(())
     }
 

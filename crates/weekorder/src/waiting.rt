@@ -1,7 +1,7 @@
 //! Reading a waiting list: one programme a line, its class and the weeks it has waited.
 ghost use Rattle.std.specs.Prelude.{◌≡◌, min, IfOk};
 ghost use Rattle.refusal.specs.Refusals.{refusal_of};
-ghost use Rattle.page_text.specs.Bytes.{words, numbers as numbersOf};
+ghost use Rattle.page_text.specs.Bytes.{words, numbers as numbers_of};
 ghost use Rattle.weekorder.specs.Waiting.{line_refusal, line_value};
 
 use page_text::words::numbers;
@@ -27,8 +27,8 @@ fn narrow(number: u32) -> u16
 /// The priority that a line gives: two whole numbers, or refusal 6, in the ranges of the house kind,
 /// or refusal 11.
 fn priority_of(line: &[u8]) -> Result<House, Refusal>
-    ensures answer { refusal_of result ≡ line_refusal (numbersOf 2 (words line.now)) }
-    ensures value { IfOk result (λ house. (house.class, house.weeks) ≡ line_value (numbersOf 2 (words line.now))) }
+    ensures answer { refusal_of result ≡ line_refusal (numbers_of 2 (words line.now)) }
+    ensures value { IfOk result (λ house. (house.class, house.weeks) ≡ line_value (numbers_of 2 (words line.now))) }
 {
     let [class, weeks] = numbers::<2>(line).ok_or(Refusal::EntryLine)?;
     House::new(narrow(class), narrow(weeks))
@@ -62,10 +62,8 @@ mod tests {
     use super::*;
 
     fn refused(line: &str) -> u8 {
-        match priority_of(line.as_bytes()) {
-            Ok(_) => 0,
-            Err(refusal) => refusal.number(),
-        }
+        let refusal = priority_of(line.as_bytes()).err();
+        refusal.map_or(0, |refusal| refusal.number())
     }
 
     #[test]
