@@ -84,7 +84,7 @@ fn fill<C: Content>(content: &mut C, page: Page, bytes: &[u8]) -> Result<(), Fau
     ensures answer { given (λ _. C.shown content.new) result ≡ read_page (C.format (C.fixed content.old)) page bytes.now }
     ensures fixed { C.fixed content.new ≡ C.fixed content.old }
 {
-    content.clear();
+    content.clear(); // unused places stay so
     if bytes.len() > PAGE_LIMIT {
         return Err(Place { page, line: 0 }.fault(Refusal::PageTooLong));
     }
