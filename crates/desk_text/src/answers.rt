@@ -1,5 +1,5 @@
 //! The lines that the operator is told, without their line feeds.
-ghost use Rattle.std.specs.Prelude.{Some};
+ghost use Rattle.std.specs.Prelude.{◌≡◌, Some, IfOk, string_bytes};
 ghost use Rattle.std.specs.List.{flat_map};
 ghost use Rattle.std.specs.Fmt.{WritesOnOk};
 ghost use Rattle.desk.specs.Told.{told};
@@ -7,6 +7,7 @@ ghost use Rattle.desk_text.specs.Answers.{spaced, answer_line, unread_line};
 
 use crate::commands::Unread;
 use desk::calls::{Answer, Served, Unserved};
+use std::alloc::{AllocError, Global};
 use std::fmt;
 
 /// Shows what a call comes to as the line that is told. A page is told by its name, and its text is for
@@ -58,4 +59,18 @@ impl fmt::Display for Unread {
             Unread::NotUnderstood => f.write_str("not understood"),
         }
     }
+}
+
+/// The line of what a call comes to. Nothing of it is told before all of it is made.
+pub fn answer_text(heap: Global, answer: &Served) -> Result<String, AllocError>
+    ensures { IfOk result (λ text. string_bytes text ≡ answer_line (told answer.now)) }
+{
+    format!(in heap; "{}", AnswerLine(answer))
+}
+
+/// The line that is told where no call is made.
+pub fn unread_text(heap: Global, unread: Unread) -> Result<String, AllocError>
+    ensures { IfOk result (λ text. string_bytes text ≡ unread_line unread) }
+{
+    format!(in heap; "{unread}")
 }

@@ -21,16 +21,16 @@ impl PairSource for Grid {
     }
 
     fn first_slot(&self, programme: Num, from: usize) -> Option<Num> {
-        let from = Num::try_from(from).ok()?;
-        (from..=self.slots).find(|slot| self.is_allowed(programme as usize, *slot as usize))
+        // Without its end, since a range with it takes three times as long a slot.
+        let past = self.slots as usize + 1;
+        let found = (from..past).find(|slot| self.is_allowed(programme as usize, *slot));
+        found.map(|slot| slot as Num)
     }
 
     fn first_programme(&self, slot: Num, from: usize) -> Option<Num> {
-        let from = Num::try_from(from).ok()?;
-        (from..=self.programmes).find(|programme| self.is_allowed(
-            *programme as usize,
-            slot as usize,
-        ))
+        let past = self.programmes as usize + 1;
+        let found = (from..past).find(|programme| self.is_allowed(*programme, slot as usize));
+        found.map(|programme| programme as Num)
     }
 }
 

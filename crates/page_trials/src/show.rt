@@ -3,8 +3,6 @@ use grid::Grid;
 use page_text::fault::{Fault, Page};
 use pages::pair_pages::read_pairs;
 use pages::table_pages::{Columns, read_table};
-use priority_pages::kinds::PagePriority;
-use priority_pages::reading::read_priorities;
 use priority_pages::room::PriorityRoom;
 use source::PairSource;
 use std::io;
@@ -50,18 +48,24 @@ pub(crate) fn show_table(
     }
 }
 
-/// Reads the priorities of a page of a table, and tells how many there are.
-pub(crate) fn show_priorities<P: PagePriority + Copy>(
+/// Reads the priorities of a page of a table by `read`, and tells how many there are.
+pub(crate) fn show_priorities<P, F>(
     rt: &HostRuntime,
     case: &str,
     page: Page,
     bytes: &[u8],
-) -> io::Result<()> {
+    read: F,
+) -> io::Result<()>
+where
+    P: Drop,
+    F: Fn(PriorityRoom<P>, &mut [u16], Page, &[u8]) -> Result<Vec<P>, Fault>,
+    requires { F.IsAlwaysCallable read }
+{
     let mut table = [0u16; 4];
     let Ok(room) = PriorityRoom::<P>::new(rt.alloc()) else {
         return println!(rt; "{case}: no memory");
     };
-    match read_priorities(room, &mut table, page, bytes) {
+    match read(room, &mut table, page, bytes) {
         Ok(priorities) => {
             let many = priorities.len();
             println!(rt; "{case}: {many} priorities")

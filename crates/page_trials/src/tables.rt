@@ -2,8 +2,7 @@
 use crate::show::{show_priorities, show_table};
 use page_text::fault::Page;
 use pages::table_pages::Columns;
-use priority::house::House;
-use priority::number::Number;
+use priority_pages::reading::{read_houses, read_numbers};
 use std::io;
 
 pub(crate) fn read(rt: &HostRuntime) -> io::Result<()> {
@@ -92,7 +91,7 @@ fn numbers(rt: &HostRuntime) -> io::Result<()> {
         ),
     ];
     for (case, page) in cases {
-        show_priorities::<Number>(rt, case, Page::Programmes, page.as_bytes())?;
+        show_priorities(rt, case, Page::Programmes, page.as_bytes(), read_numbers)?;
     }
     Ok(())
 }
@@ -113,7 +112,7 @@ fn houses(rt: &HostRuntime) -> io::Result<()> {
         ),
     ];
     for (case, page) in cases {
-        show_priorities::<House>(rt, case, Page::Slots, page.as_bytes())?;
+        show_priorities(rt, case, Page::Slots, page.as_bytes(), read_houses)?;
     }
     Ok(())
 }

@@ -9,6 +9,7 @@ ghost use Rattle.refusal.specs.Refusals.{refusal_of, first_refusal};
 ghost use Rattle.source.specs.Makes.{make_refusal_of};
 ghost use Rattle.grid.specs.GridPairs.{grid_pairs};
 ghost use Rattle.plan.specs.Parts.{parts_fit, whole_refusals};
+ghost use Rattle.filing.specs.declared.Wanted.TheVariants.{Plan, Certificate};
 ghost use Rattle.page_writer.specs.Texts.{text_of};
 ghost use Rattle.planning.specs.Planning.{PageOf, Came, Answered};
 
@@ -99,4 +100,19 @@ pub fn answer(room: PlanningRoom, bytes: &WeekBytes, wanted: Wanted) -> Result<P
         return Ok(text);
     };
     Err(text.refusal(declined))
+}
+
+/// What `weekplan` writes for the three pages: the page of a best plan, or the line of the refusal.
+pub fn plan_answer(room: PlanningRoom, bytes: &WeekBytes) -> Result<PageText, PageText>
+    ensures { Answered Plan bytes.now.pairs.now bytes.now.programmes.now bytes.now.slots.now result }
+{
+    answer(room, bytes, Wanted::Plan)
+}
+
+/// What `weekproof` writes for the three pages: the page of a certificate that passes with a best plan,
+/// or the line of the refusal.
+pub fn proof_answer(room: PlanningRoom, bytes: &WeekBytes) -> Result<PageText, PageText>
+    ensures { Answered Certificate bytes.now.pairs.now bytes.now.programmes.now bytes.now.slots.now result }
+{
+    answer(room, bytes, Wanted::Certificate)
 }

@@ -3,12 +3,14 @@ ghost use Rattle.std.specs.Prelude.{◌≡◌, ◌*◌, ◌≤◌, map, length};
 ghost use Rattle.refusal.specs.Limits.{side};
 ghost use Rattle.pages.specs.Stages.{given};
 ghost use Rattle.pages.specs.TablePages.{read_table};
-ghost use Rattle.priority_pages.specs.PriorityPages.{kind_rows, read_priorities, values_left};
+ghost use Rattle.priority_pages.specs.PriorityPages.{number_of, house_of, kind_rows, read_priorities, values_left, read_numbers, numbers_left, read_houses, houses_left};
 
 use crate::kinds::PagePriority;
 use crate::room::PriorityRoom;
 use page_text::fault::{Fault, Page, Place};
 use pages::table_pages::read_table;
+use priority::house::House;
+use priority::number::Number;
 use refusal::Refusal;
 use refusal::tables::entry;
 
@@ -48,4 +50,32 @@ pub fn read_priorities<P: PagePriority + Copy>(
         table.fill(0);
     }
     made.map_err(|refusal| Place { page, line: 0 }.fault(refusal))
+}
+
+/// Reads a page of priorities of the number kind, through the supplied table. A number outside 1 to 255
+/// gives 11 with line 0. After a refusal the table is all 0.
+pub fn read_numbers(
+    room: PriorityRoom<Number>,
+    table: &mut [u16],
+    page: Page,
+    bytes: &[u8],
+) -> Result<Vec<Number>, Fault>
+    ensures answer { given (λ list. map number_of list.items) result ≡ read_numbers (length table.old) page bytes.now }
+    ensures after { table.new ≡ numbers_left (length table.old) page bytes.now }
+{
+    read_priorities(room, table, page, bytes)
+}
+
+/// Reads a page of priorities of the house kind, through the supplied table. A class outside 0 to 3 or weeks
+/// outside 0 to 520 give 11 with line 0. After a refusal the table is all 0.
+pub fn read_houses(
+    room: PriorityRoom<House>,
+    table: &mut [u16],
+    page: Page,
+    bytes: &[u8],
+) -> Result<Vec<House>, Fault>
+    ensures answer { given (λ list. map house_of list.items) result ≡ read_houses (length table.old) page bytes.now }
+    ensures after { table.new ≡ houses_left (length table.old) page bytes.now }
+{
+    read_priorities(room, table, page, bytes)
 }

@@ -1,12 +1,14 @@
 -- Lemmas on `find` over a range: it finds the first number that passes.
-use Rattle.std.proofs.Common.{◌≡◌, ℕ, suc, ◌+◌, ◌-◌, Bool, true, false, cond, List, [], ◌∷◌, Some, None, Option, IfSome, sym, refl, ap, subst, ◌∙◌, ⊎_elim, arith}
+use Rattle.std.proofs.Common.{◌≡◌, ℕ, suc, ◌+◌, ◌-◌, Bool, true, false, cond, List, [], ◌∷◌, Some, None, Option, IfSome, sym, ap, subst, ◌∙◌, ⊎_elim, arith}
 use Rattle.std.specs.Fn.{CalledAt}
 use Rattle.std.specs.Iterator.{YieldsThen, FindsItem}
 use Rattle.std.specs.List.{FoldsTo}
 use Rattle.std.specs.Range.{range_inclusive_len, range_inclusive_start, range_inclusive_end, range_inclusive_exhausted}
+use Rattle.std.specs.declared.ops.Range.{Range}
 use Rattle.std.specs.declared.ops.RangeInclusive.{RangeInclusive}
 use Rattle.std.proofs.lemmas.Bool.{cases_Bool}
 use Rattle.std.proofs.iter.runs.Sources.{nat_range_inclusive_steps}
+use Rattle.std.proofs.iter.Yields.{nat_range_steps}
 use denote.Param.Members.{Mut}
 use denote.Ref.{Bor}
 use Rattle.refusal.specs.Counting.{first_of, first_from}
@@ -14,6 +16,10 @@ use Rattle.refusal.specs.Counting.{first_of, first_from}
 -- how many numbers a range has left
 abbrev left : RangeInclusive ℕ → ℕ
 left s = range_inclusive_len (λ x y. y - x) (range_inclusive_start s) (range_inclusive_end s) (range_inclusive_exhausted s)
+
+-- the same of a range without its end
+abbrev span : Range ℕ → ℕ
+span s = s.end - s.start
 
 module _ (test : ℕ → Bool) where
   here : (n k : ℕ) → true ≡ test k → Some k ≡ first_of test (suc n) k
@@ -61,3 +67,27 @@ module _ {F : Type 0} (g : Mut F (Bor ℕ × Unit {0}) Bool) (test : ℕ → Boo
   range_found s u r k last a b more found =
       let long : left s ≡ suc last - k = omega (arith, ap (range_inclusive_len (λ x y. y - x) (range_inclusive_start s) (range_inclusive_end s)) more) in
       steps_found found.0 s u r found.1 found.2 found.3 found.4 ∙ ap (λ n. first_of test n (range_inclusive_start s)) long ∙ ap (first_of test (suc last - k)) a
+
+  -- ---- the same over a range without its end
+  span_steps : (xs : List ℕ) (s u : Range ℕ) (r : Option ℕ) (q : F) → YieldsThen nat_range_steps s xs r u → FoldsTo (λ p x q. CalledAt g p x false q) f xs q → IfSome r (λ x. (h : F) × CalledAt g q x true h) → r ≡ first_of test (span s) s.start
+  span_steps [] s u None q y fold last = none_left test (span s) s.start (ap span y.1 ∙ y.2.1.0)
+  span_steps [] s u (Some x) q y fold last =
+      let passes = answers x true last.0 (subst (λ (p : F). CalledAt g p x true last.0) (sym fold) last.1) in
+      let at : x ≡ s.start = y.2.1.1 ∙ ap (λ (k : Range ℕ). k.start) (sym y.1) in
+      let long : suc (span s - 1) ≡ span s = omega (arith, ap span y.1, y.2.1.0) in
+      here test (span s - 1) x passes.1 ∙ ap (first_of test (suc (span s - 1))) at ∙ ap (λ n. first_of test n s.start) long
+  span_steps (x ∷ xs) s u r q y fold last =
+      let (t, (next, step, rest), end) = y in
+      let fails = answers x false fold.0 fold.1 in
+      let later = span_steps xs next u r q (t, rest, end) (subst (λ (p : F). FoldsTo (λ p x q. CalledAt g p x false q) p xs q) fails.0 fold.2) last in
+      let moves : next.start ≡ suc s.start = omega (arith, step.1.2) in
+      let long : suc (span next) ≡ span s = omega (arith, step.0, step.1.0, step.1.2) in
+      later ∙ ap (first_of test (span next)) moves
+      ∙ on test (span next) s.start (fails.1 ∙ ap test step.1.1)
+      ∙ ap (λ n. first_of test n s.start) long
+
+  pub span_found : (s u : Range ℕ) (r : Option ℕ) (k last : ℕ) → s.start ≡ k → s.end ≡ last + 1 → FindsItem nat_range_steps g s f r u → r ≡ first_from test last k
+  unfolding first_from
+  span_found s u r k last a b found =
+      let long : span s ≡ suc last - k = omega (arith, a, b) in
+      span_steps found.0 s u r found.1 found.2 found.3 found.4 ∙ ap (λ n. first_of test n s.start) long ∙ ap (first_of test (suc last - k)) a

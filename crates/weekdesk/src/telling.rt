@@ -3,12 +3,13 @@ use crate::session::Session;
 use anyhow::anyhow;
 use desk::calls::{Answer, Served};
 use desk::run::{NewWeek, run};
-use desk_text::answers::AnswerLine;
+use desk_text::answers::{answer_text, unread_text};
 use std::io::Write;
 
 /// Writes what the call of that line is answered.
 fn tell_answer(rt: &HostRuntime, line: usize, answer: &Served) -> anyhow::Result<()> {
-    println!(rt; "{line}: {}", AnswerLine(answer))?;
+    let text = answer_text(rt.alloc(), answer)?;
+    println!(rt; "{line}: {text}")?;
     if let Ok(Answer::Page(page)) = answer {
         rt.stdout().write_all(page.as_bytes())?;
     }
@@ -24,7 +25,8 @@ pub fn tell(rt: &HostRuntime, session: Session) -> anyhow::Result<()> {
     };
     let mut answers = answers.iter();
     if let Some(load) = answers.next() {
-        println!(rt; "load: {}", AnswerLine(load))?;
+        let text = answer_text(rt.alloc(), load)?;
+        println!(rt; "load: {text}")?;
     }
     for note in &notes {
         let line = note.line;
@@ -34,7 +36,10 @@ pub fn tell(rt: &HostRuntime, session: Session) -> anyhow::Result<()> {
                     tell_answer(rt, line, answer)?;
                 }
             }
-            Err(unread) => println!(rt; "{line}: {unread}")?,
+            Err(unread) => {
+                let text = unread_text(rt.alloc(), unread)?;
+                println!(rt; "{line}: {text}")?;
+            }
         }
     }
     Ok(())

@@ -6,9 +6,8 @@
 #![tactic(auto)]
 
 use anyhow::anyhow;
-use filing::Wanted;
 use folder::{WeekFiles, folder_argument, write_answer};
-use planning::{PlanningRoom, answer};
+use planning::{PlanningRoom, proof_answer};
 
 fn main(rt: HostRuntime) -> anyhow::Result<()> {
     let folder = folder_argument(&rt)?;
@@ -16,5 +15,5 @@ fn main(rt: HostRuntime) -> anyhow::Result<()> {
         return Err(anyhow!("no memory"));
     };
     let files = WeekFiles::read(&rt, folder.as_str())?;
-    write_answer(&rt, &answer(room, &files.bytes(), Wanted::Certificate))
+    write_answer(&rt, &proof_answer(room, &files.bytes()))
 }

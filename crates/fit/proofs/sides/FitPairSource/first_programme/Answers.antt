@@ -1,17 +1,10 @@
-use Rattle.std.proofs.Common.{◌≡◌, ◌≤◌, sym, ◌∙◌, rules, tests, arith}
-use Rattle.refusal.proofs.First.{first_end}
+use Rattle.std.proofs.Common.{◌≡◌, ◌+◌, ◌∙◌, refl, rules, tests}
 use Rattle.source.specs.Pairs.{holds}
-use Rattle.source.proofs.Ranges.{range_found}
+use Rattle.source.proofs.Ranges.{span_found}
 use Rattle.fit.specs.Fitting.{fit_pairs}
 use Rattle.fit.proofs.sides.FitPairSource.first_programme.Goals as goal
 
-pub returns-in_err-from : goal.returns-in_err-from
-returns-in_err-from c =
-    let beyond : 256 ≤ c.args.from = search rules in
-    c.from_residual.ensures ∙ sym (first_end (λ i. holds (fit_pairs c.args.self.now) i c.args.slot) (fit_pairs c.args.self.now).programmes c.args.from (omega arith))
-
 pub returns : goal.returns
 returns c =
-    let same : c.in_ok-from.from ≡ c.args.from = search rules in
-    range_found _ (λ i. holds (fit_pairs c.args.self.now) i c.args.slot) _ (λ x b q k. search (rules, tests)) _ _ c.find.result c.args.from (fit_pairs c.args.self.now).programmes
-    (c.new.ensures.start ∙ same) (c.new.ensures.end ∙ c.programmes.ensures) c.new.ensures.exhausted c.find.ensures.ran
+    let same : c.map.result ≡ c.find-found.result = search rules in
+    same ∙ span_found _ (λ i. holds (fit_pairs c.args.self.now) i c.args.slot) _ (λ x b q k. search (rules, tests)) (record { start = c.args.from; end = c.len-past.result + 1 }) _ c.find-found.result c.args.from (fit_pairs c.args.self.now).programmes refl (search rules) c.find-found.ensures.ran
