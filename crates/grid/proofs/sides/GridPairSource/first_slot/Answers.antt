@@ -1,4 +1,4 @@
-use Rattle.std.proofs.Common.{◌≡◌, ◌∙◌, refl, rules, tests}
+use Rattle.std.proofs.Common.{◌≡◌, ◌∙◌, rules, tests}
 use Rattle.source.specs.Pairs.{holds}
 use Rattle.source.proofs.Ranges.{span_found}
 use Rattle.grid.specs.GridPairs.{grid_pairs}
@@ -7,4 +7,4 @@ use Rattle.grid.proofs.sides.GridPairSource.first_slot.Goals as goal
 pub returns : goal.returns
 returns c =
     let same : c.map.result ≡ c.find-found.result = search rules in
-    same ∙ span_found _ (holds (grid_pairs c.args.self.now) c.args.programme) _ (λ x b q k. search (rules, tests)) _ _ c.find-found.result c.args.from (grid_pairs c.args.self.now).slots refl refl c.find-found.ensures.ran
+    same ∙ span_found _ (holds (grid_pairs c.args.self.now) c.args.programme) _ (λ x b q k. search (rules, tests)) _ _ c.find-found.result c.args.from (grid_pairs c.args.self.now).slots (search rules) (search rules) c.find-found.ensures.ran
