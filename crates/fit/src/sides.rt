@@ -52,7 +52,7 @@ impl PairSource for Fit {
     }
 
     fn first_slot(&self, programme: Num, from: usize) -> Option<Num> {
-        // Without its end, since a range with it takes three times as long a slot.
+        // Without the range's end, since with it each number costs two comparisons.
         let past = self.slots.len() + 1;
         let found = (from..past).find(|slot| self.is_allowed(programme as usize, *slot));
         found.map(|slot| slot as Num)

@@ -1,5 +1,5 @@
 -- What a grid means: its counts, and the pairs whose cells are marked.
-use Rattle.std.specs.Prelude.{ℕ, ◌+◌, ◌-◌, ◌*◌, Bool, false, not, ◌&&◌, List, [], ◌∷◌, vec_items, slice_index_or}
+use Rattle.std.specs.Prelude.{ℕ, ◌+◌, ◌-◌, ◌*◌, Bool, false, not, ◌&&◌, List, [], ◌∷◌, take, drop, vec_items, slice_index_or}
 use Rattle.refusal.specs.Limits.{side}
 use Rattle.refusal.specs.Counting.{within}
 use Rattle.source.specs.Pairs.{Pairs, inside}
@@ -16,6 +16,10 @@ has_cell i s = within side i && within side s
 -- The pair has a cell, and it is marked.
 abbrev pub marked : List Bool → ℕ → ℕ → Bool
 marked cells i s = has_cell i s && slice_index_or cells (place i s) false
+
+-- The row of programme i: the cells of its pairs with each of the slots.
+abbrev pub row : Grid → ℕ → List Bool
+row g i = take g.slots (drop (place i 1) (vec_items g.cells))
 
 -- The pairs of a grid.
 abbrev pub grid_pairs : Grid → Pairs

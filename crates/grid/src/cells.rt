@@ -1,10 +1,11 @@
 //! How a grid is made, emptied, read and written.
-ghost use Rattle.std.specs.Prelude.{◌≡◌, ◌*◌, ◌<◌, true, IfOk, vec_len, OnErr, OnOk};
+ghost use Rattle.std.specs.Prelude.{◌≡◌, ◌*◌, ◌<◌, true, IfOk, length, vec_len, OnErr, OnOk};
 ghost use Rattle.refusal.specs.Limits.{side};
 ghost use Rattle.refusal.specs.Refusals.{refusal_of, first_refusal};
+ghost use Rattle.refusal.specs.Counting.{within};
 ghost use Rattle.source.specs.Pairs.{inside, holds, changed, empty_pairs};
 ghost use Rattle.source.specs.Makes.{make_refusal_of, count_refusals};
-ghost use Rattle.grid.specs.GridPairs.{place as place_of, has_cell, grid_pairs, mark_refusals};
+ghost use Rattle.grid.specs.GridPairs.{place as place_of, has_cell, marked, row as row_of, grid_pairs, mark_refusals};
 
 use crate::Grid;
 use refusal::limits::{Num, SIDE, is_within};
@@ -53,7 +54,16 @@ impl Grid {
     pub fn is_allowed(&self, programme: usize, slot: usize) -> bool
         ensures { result ≡ holds (grid_pairs self.now) programme slot }
     {
-        self.is_inside(programme, slot) && self.cells[place(programme, slot)]
+        self.is_inside(programme, slot) && is_marked(&self.cells, programme, slot)
+    }
+
+    /// The programme's row: a cell for each slot.
+    pub(crate) fn row(&self, programme: usize) -> &[bool]
+        requires { within self.now.programmes programme ≡ true }
+        ensures { result.now ≡ row_of self.now programme }
+    {
+        let start = place(programme, 1);
+        &self.cells[start..start + self.slots as usize]
     }
 
     /// Allows the pair, or not, as `allowed` says. Refuses 10 when a number is 0 or beyond its count.
@@ -68,6 +78,15 @@ impl Grid {
         self.cells[place(programme, slot)] = allowed;
         Ok(())
     }
+}
+
+/// Whether the pair's cell is marked.
+pub(crate) fn is_marked(cells: &[bool], programme: usize, slot: usize) -> bool
+    requires cell { has_cell programme slot ≡ true }
+    requires room { length cells.now ≡ side * side }
+    ensures { result ≡ marked cells.now programme slot }
+{
+    cells[place(programme, slot)]
 }
 
 /// Where the pair's cell stands.

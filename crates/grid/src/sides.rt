@@ -4,8 +4,9 @@ ghost use Rattle.source.specs.Pairs.{inside, holds};
 ghost use Rattle.grid.specs.GridPairs.{grid_pairs};
 
 use crate::Grid;
+use crate::cells::is_marked;
 use refusal::Refusal;
-use refusal::limits::Num;
+use refusal::limits::{Num, is_within};
 use source::layer::Exclusion;
 use source::{OpenSource, PairSource};
 
@@ -21,15 +22,26 @@ impl PairSource for Grid {
     }
 
     fn first_slot(&self, programme: Num, from: usize) -> Option<Num> {
-        // Without its end, since a range with it takes three times as long a slot.
-        let past = self.slots as usize + 1;
-        let found = (from..past).find(|slot| self.is_allowed(programme as usize, *slot));
-        found.map(|slot| slot as Num)
+        let programme = programme as usize;
+        if !is_within(self.programmes as usize, programme) {
+            return None;
+        }
+        // The row begins with the cell of slot 1.
+        let from = from.max(1);
+        let cells = self.row(programme).get(from - 1..)?;
+        let found = cells.iter().position(|marked| *marked)?;
+        Some((from + found) as Num)
     }
 
     fn first_programme(&self, slot: Num, from: usize) -> Option<Num> {
+        let slot = slot as usize;
+        if !is_within(self.slots as usize, slot) {
+            return None;
+        }
+        let cells: &[bool] = &self.cells;
+        // Without the range's end, since with it each number costs two comparisons.
         let past = self.programmes as usize + 1;
-        let found = (from..past).find(|programme| self.is_allowed(*programme, slot as usize));
+        let found = (from.max(1)..past).find(|programme| is_marked(cells, *programme, slot));
         found.map(|programme| programme as Num)
     }
 }

@@ -12,6 +12,5 @@ pub const SIDE: usize = 200;
 pub fn is_within(count: usize, number: usize) -> bool
     ensures { result ≡ within count number }
 {
-    // By two comparisons, of which a loop over the numbers up to `count` needs none; `contains` it would ask each time.
-    1 <= number && number <= count
+    (1..=count).contains(&number)
 }

@@ -1,5 +1,5 @@
 -- Lemmas on `find` over a range: it finds the first number that passes.
-use Rattle.std.proofs.Common.{◌≡◌, ℕ, suc, ◌+◌, ◌-◌, Bool, true, false, cond, List, [], ◌∷◌, Some, None, Option, IfSome, sym, ap, subst, ◌∙◌, ⊎_elim, arith}
+use Rattle.std.proofs.Common.{◌≡◌, ℕ, suc, ◌+◌, ◌-◌, ◌<◌, ◌≤◌, Bool, true, false, cond, List, [], ◌∷◌, Some, None, Option, IfSome, sym, ap, subst, ◌∙◌, ⊎_elim, arith}
 use Rattle.std.specs.Fn.{CalledAt}
 use Rattle.std.specs.Iterator.{YieldsThen, FindsItem}
 use Rattle.std.specs.List.{FoldsTo}
@@ -68,26 +68,28 @@ module _ {F : Type 0} (g : Mut F (Bor ℕ × Unit {0}) Bool) (test : ℕ → Boo
       let long : left s ≡ suc last - k = omega (arith, ap (range_inclusive_len (λ x y. y - x) (range_inclusive_start s) (range_inclusive_end s)) more) in
       steps_found found.0 s u r found.1 found.2 found.3 found.4 ∙ ap (λ n. first_of test n (range_inclusive_start s)) long ∙ ap (first_of test (suc last - k)) a
 
-  -- ---- the same over a range without its end
-  span_steps : (xs : List ℕ) (s u : Range ℕ) (r : Option ℕ) (q : F) → YieldsThen nat_range_steps s xs r u → FoldsTo (λ p x q. CalledAt g p x false q) f xs q → IfSome r (λ x. (h : F) × CalledAt g q x true h) → r ≡ first_of test (span s) s.start
-  span_steps [] s u None q y fold last = none_left test (span s) s.start (ap span y.1 ∙ y.2.1.0)
-  span_steps [] s u (Some x) q y fold last =
-      let passes = answers x true last.0 (subst (λ (p : F). CalledAt g p x true last.0) (sym fold) last.1) in
+-- The same over a range without its end, of the numbers low to last; what the closure answers elsewhere does not matter.
+module _ {F : Type 0} (g : Mut F (Bor ℕ × Unit {0}) Bool) (test : ℕ → Bool) (f : F) (low last : ℕ) (answers : (x : ℕ) (b : Bool) (q : F) → low ≤ x → x ≤ last → CalledAt g f x b q → (q ≡ f) × (b ≡ test x)) where
+  span_steps : (xs : List ℕ) (s u : Range ℕ) (r : Option ℕ) (q : F) → low ≤ s.start → s.end ≡ last + 1 → YieldsThen nat_range_steps s xs r u → FoldsTo (λ p x q. CalledAt g p x false q) f xs q → IfSome r (λ x. (h : F) × CalledAt g q x true h) → r ≡ first_of test (span s) s.start
+  span_steps [] s u None q a b y fold stop = none_left test (span s) s.start (ap span y.1 ∙ y.2.1.0)
+  span_steps [] s u (Some x) q a b y fold stop =
       let at : x ≡ s.start = y.2.1.1 ∙ ap (λ (k : Range ℕ). k.start) (sym y.1) in
-      let long : suc (span s - 1) ≡ span s = omega (arith, ap span y.1, y.2.1.0) in
+      let more : 0 < span s = omega (arith, ap span y.1, y.2.1.0) in
+      let passes = answers x true stop.0 (omega arith) (omega arith) (subst (λ (p : F). CalledAt g p x true stop.0) (sym fold) stop.1) in
+      let long : suc (span s - 1) ≡ span s = omega arith in
       here test (span s - 1) x passes.1 ∙ ap (first_of test (suc (span s - 1))) at ∙ ap (λ n. first_of test n s.start) long
-  span_steps (x ∷ xs) s u r q y fold last =
+  span_steps (x ∷ xs) s u r q a b y fold stop =
       let (t, (next, step, rest), end) = y in
-      let fails = answers x false fold.0 fold.1 in
-      let later = span_steps xs next u r q (t, rest, end) (subst (λ (p : F). FoldsTo (λ p x q. CalledAt g p x false q) p xs q) fails.0 fold.2) last in
+      let fails = answers x false fold.0 (omega (arith, step.1.1)) (omega (arith, step.1.0, step.1.1)) fold.1 in
       let moves : next.start ≡ suc s.start = omega (arith, step.1.2) in
+      let later = span_steps xs next u r q (omega arith) (omega (arith, step.0)) (t, rest, end) (subst (λ (p : F). FoldsTo (λ p x q. CalledAt g p x false q) p xs q) fails.0 fold.2) stop in
       let long : suc (span next) ≡ span s = omega (arith, step.0, step.1.0, step.1.2) in
       later ∙ ap (first_of test (span next)) moves
       ∙ on test (span next) s.start (fails.1 ∙ ap test step.1.1)
       ∙ ap (λ n. first_of test n s.start) long
 
-  pub span_found : (s u : Range ℕ) (r : Option ℕ) (k last : ℕ) → s.start ≡ k → s.end ≡ last + 1 → FindsItem nat_range_steps g s f r u → r ≡ first_from test last k
+  pub span_found : (s u : Range ℕ) (r : Option ℕ) → s.start ≡ low → s.end ≡ last + 1 → FindsItem nat_range_steps g s f r u → r ≡ first_from test last low
   unfolding first_from
-  span_found s u r k last a b found =
-      let long : span s ≡ suc last - k = omega (arith, a, b) in
-      span_steps found.0 s u r found.1 found.2 found.3 found.4 ∙ ap (λ n. first_of test n s.start) long ∙ ap (first_of test (suc last - k)) a
+  span_found s u r a b found =
+      let long : span s ≡ suc last - low = omega (arith, a, b) in
+      span_steps found.0 s u r found.1 (omega (arith, a)) b found.2 found.3 found.4 ∙ ap (λ n. first_of test n s.start) long ∙ ap (first_of test (suc last - low)) a

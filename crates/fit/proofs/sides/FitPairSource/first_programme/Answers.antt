@@ -7,4 +7,4 @@ use Rattle.fit.proofs.sides.FitPairSource.first_programme.Goals as goal
 pub returns : goal.returns
 returns c =
     let same : c.map.result ≡ c.find-found.result = search rules in
-    same ∙ span_found _ (λ i. holds (fit_pairs c.args.self.now) i c.args.slot) _ (λ x b q k. search (rules, tests)) _ _ c.find-found.result c.args.from (fit_pairs c.args.self.now).programmes (search rules) (search rules) c.find-found.ensures.ran
+    same ∙ span_found _ (λ i. holds (fit_pairs c.args.self.now) i c.args.slot) _ c.args.from (fit_pairs c.args.self.now).programmes (λ x b q low high k. search (rules, tests)) _ _ c.find-found.result (search rules) (search rules) c.find-found.ensures.ran
