@@ -52,15 +52,29 @@ impl PairSource for Fit {
     }
 
     fn first_slot(&self, programme: Num, from: usize) -> Option<Num> {
-        // Without the range's end, since with it each number costs two comparisons.
-        let past = self.slots.len() + 1;
-        let found = (from..past).find(|slot| self.is_allowed(programme as usize, *slot));
-        found.map(|slot| slot as Num)
+        let programme = programme as usize;
+        if !is_within(self.programmes() as usize, programme) {
+            return None;
+        }
+        let programme = &self.programmes[programme - 1];
+        // The list begins with slot 1.
+        let from = from.max(1);
+        let slots = self.slots.get(from - 1..)?;
+        let found = slots.iter().position(|slot| fits(programme, slot))?;
+        Some((from + found) as Num)
     }
 
     fn first_programme(&self, slot: Num, from: usize) -> Option<Num> {
-        let past = self.programmes.len() + 1;
-        let found = (from..past).find(|programme| self.is_allowed(*programme, slot as usize));
-        found.map(|programme| programme as Num)
+        let slot = slot as usize;
+        if !is_within(self.slots() as usize, slot) {
+            return None;
+        }
+        let slot = &self.slots[slot - 1];
+        let from = from.max(1);
+        let programmes = self.programmes.get(from - 1..)?;
+        let found = programmes
+            .iter()
+            .position(|programme| fits(programme, slot))?;
+        Some((from + found) as Num)
     }
 }

@@ -3,3 +3,4 @@ pub mod Questions
 pub mod Ranges
 pub mod Layers
 pub mod Missing
+pub mod Places

@@ -4,8 +4,9 @@ use Rattle.refusal.proofs.Counts.{within_from}
 use Rattle.refusal.proofs.First.{first_empty}
 use Rattle.source.specs.Pairs.{inside, holds}
 use Rattle.source.proofs.Ranges.{span_found}
+use Rattle.source.proofs.Places.{from_one}
 use Rattle.grid.specs.GridPairs.{grid_pairs}
-use Rattle.grid.proofs.Walks.{holds_at, from_one}
+use Rattle.grid.proofs.Walks.{holds_at}
 use Rattle.grid.proofs.sides.GridPairSource.first_programme.Goals as goal
 
 pub returns-then-not-is_within : goal.returns-then-not-is_within
